@@ -1,3 +1,5 @@
 pub mod Structure
 pub mod Reading
 pub mod Refusals
+pub mod Said
+pub mod Writing

@@ -57,9 +57,12 @@ andThen (Some s) f = f s
 abbrev pub past : ℕ → List ℕ → Option (List ℕ)
 past n s = cond (leb n (length s)) (Some (drop n s)) None
 
+abbrev pub pastSegment : List ℕ → Option (List ℕ)
+pastSegment s = past (segmentSize s) s
+
 abbrev pub pastSegments : ℕ → List ℕ → Option (List ℕ)
 pastSegments zero s = Some s
-pastSegments (suc n) s = andThen (past (segmentSize s) s) (pastSegments n)
+pastSegments (suc n) s = andThen (pastSegment s) (pastSegments n)
 
 abbrev pub pastString : List ℕ → Option (List ℕ)
 pastString s = andThen (past 4 s) (pastSegments (getD s 3 0))

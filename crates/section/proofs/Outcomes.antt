@@ -1,0 +1,93 @@
+-- What a reading keeps, by the tests of the rules in their order. Assumes nothing.
+use mathlib.Core.Path.{_≡_, refl, sym, ap, _∙_}
+use mathlib.Core.Bool.{Bool, true, false, cond}
+use mathlib.Core.List.{List}
+use Prim.Native.Nat.{ℕ}
+use native.Mathlib.Omega.{arith}
+use Rattle.std.specs.declared.option.Option.{Option}
+use Rattle.std.specs.declared.option.Option.the-variants.{Some, None}
+use Rattle.std.specs.declared.result.Result.{Result}
+use Rattle.std.specs.declared.result.Result.the-variants.{Ok, Err}
+use Rattle.section.specs.Places.{layoutOf, part}
+use Rattle.section.specs.Rules.{sized, headed, checks, versioned, adds, ranged, spelled, unless, refusal, orRefused, outcome}
+use Rattle.section.specs.declared.layout.Layout.{Layout}
+use Rattle.section.specs.declared.layout.Span.{Span}
+use Rattle.section.specs.declared.refusal.SectionRefusal.{SectionRefusal}
+use Rattle.section.specs.declared.refusal.SectionRefusal.the-variants.{Length, Head, CheckWord, Version, Layout as Lengths, Range, Text}
+
+abbrev by : Layout → Bool → Bool → Bool → Bool → Bool → Bool → Bool → Result Layout SectionRefusal
+by l a b c d e f g =
+    orRefused (unless a Length (unless b Head (unless c CheckWord (unless d Version (unless e Lengths (unless f Range (unless g Text None))))))) l
+
+pub length-refused : (s : List ℕ) → false ≡ sized s → Err Length ≡ outcome s
+unfolding refusal
+length-refused s a = λ i. by (layoutOf s) (a i) (headed s) (checks s) (versioned s) (adds s) (ranged s) (spelled s)
+
+pub head-refused : (s : List ℕ) → true ≡ sized s → false ≡ headed s → Err Head ≡ outcome s
+unfolding refusal
+head-refused s a b = λ i. by (layoutOf s) (a i) (b i) (checks s) (versioned s) (adds s) (ranged s) (spelled s)
+
+pub check-refused : (s : List ℕ) → true ≡ sized s → true ≡ headed s → false ≡ checks s → Err CheckWord ≡ outcome s
+unfolding refusal
+check-refused s a b c = λ i. by (layoutOf s) (a i) (b i) (c i) (versioned s) (adds s) (ranged s) (spelled s)
+
+pub version-refused : (s : List ℕ) → true ≡ sized s → true ≡ headed s → true ≡ checks s → false ≡ versioned s → Err Version ≡ outcome s
+unfolding refusal
+version-refused s a b c d = λ i. by (layoutOf s) (a i) (b i) (c i) (d i) (adds s) (ranged s) (spelled s)
+
+pub lengths-refused : (s : List ℕ) → true ≡ sized s → true ≡ headed s → true ≡ checks s → true ≡ versioned s → false ≡ adds s → Err Lengths ≡ outcome s
+unfolding refusal
+lengths-refused s a b c d e = λ i. by (layoutOf s) (a i) (b i) (c i) (d i) (e i) (ranged s) (spelled s)
+
+pub range-refused : (s : List ℕ) → true ≡ sized s → true ≡ headed s → true ≡ checks s → true ≡ versioned s → true ≡ adds s → false ≡ ranged s → Err Range ≡ outcome s
+unfolding refusal
+range-refused s a b c d e f = λ i. by (layoutOf s) (a i) (b i) (c i) (d i) (e i) (f i) (spelled s)
+
+pub text-refused : (s : List ℕ) → true ≡ sized s → true ≡ headed s → true ≡ checks s → true ≡ versioned s → true ≡ adds s → true ≡ ranged s → false ≡ spelled s → Err Text ≡ outcome s
+unfolding refusal
+text-refused s a b c d e f g = λ i. by (layoutOf s) (a i) (b i) (c i) (d i) (e i) (f i) (g i)
+
+pub none-refused : (s : List ℕ) (l : Layout) → l ≡ layoutOf s → true ≡ sized s → true ≡ headed s → true ≡ checks s → true ≡ versioned s → true ≡ adds s → true ≡ ranged s → true ≡ spelled s → Ok l ≡ outcome s
+unfolding refusal
+none-refused s l h a b c d e f g = λ i. by (h i) (a i) (b i) (c i) (d i) (e i) (f i) (g i)
+
+-- what a reading says of the section
+pub taken : (o : Option SectionRefusal) (l m : Layout) → Ok l ≡ orRefused o m → (o ≡ None) × (l ≡ m)
+taken None l m h = (refl, cc)
+taken (Some e) l m h = let z : _≡_ {A = ℕ} 0 1 = cc in absurd (omega arith)
+
+pub refused : (o : Option SectionRefusal) (e : SectionRefusal) (m : Layout) → Err e ≡ orRefused o m → o ≡ Some e
+refused None e m h = let z : _≡_ {A = ℕ} 0 1 = cc in absurd (omega arith)
+refused (Some f) e m h = cc
+
+-- a section that is not refused keeps every rule
+pub record Keeps (s : List ℕ) : Type 0 where
+  pub sizes : sized s ≡ true
+  pub heads : headed s ≡ true
+  pub checked : checks s ≡ true
+  pub version : versioned s ≡ true
+  pub lengths : adds s ≡ true
+  pub ranges : ranged s ≡ true
+  pub texts : spelled s ≡ true
+
+kept : (b : Bool) (e : SectionRefusal) (rest : Option SectionRefusal) → unless b e rest ≡ None → (b ≡ true) × (rest ≡ None)
+kept true e rest h = (refl, h)
+kept false e rest h = let z : _≡_ {A = ℕ} 0 1 = cc in absurd (omega arith)
+
+pub keeps : (s : List ℕ) → refusal s ≡ None → Keeps s
+unfolding refusal
+keeps s h =
+    let a = kept (sized s) Length _ h in
+    let b = kept (headed s) Head _ (a .1) in
+    let c = kept (checks s) CheckWord _ (b .1) in
+    let d = kept (versioned s) Version _ (c .1) in
+    let e = kept (adds s) Lengths _ (d .1) in
+    let f = kept (ranged s) Range _ (e .1) in
+    let g = kept (spelled s) Text None (f .1) in
+    record { sizes = a .0; heads = b .0; checked = c .0; version = d .0; lengths = e .0; ranges = f .0; texts = g .0 }
+
+-- a part by its span in the layout
+pub hands : (s : List ℕ) (l : Layout) (f : Layout → Span) (at : ℕ) (bs : List ℕ)
+    → (refusal s ≡ None) × (l ≡ layoutOf s) → at ≡ f l .start → bs ≡ part (f l .start) (f l .end) s
+    → (refusal s ≡ None) × (at ≡ f (layoutOf s) .start) × (bs ≡ part (f (layoutOf s) .start) (f (layoutOf s) .end) s)
+hands s l f at bs h a e = (h .0, a ∙ ap (λ x. f x .start) (h .1), e ∙ ap (λ x. part (f x .start) (f x .end) s) (h .1))
