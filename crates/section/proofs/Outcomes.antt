@@ -2,13 +2,17 @@
 use mathlib.Core.Path.{_≡_, refl, sym, ap, _∙_}
 use mathlib.Core.Bool.{Bool, true, false, cond}
 use mathlib.Core.List.{List}
-use Prim.Native.Nat.{ℕ}
+use Prim.Native.Nat.{ℕ, _<_, _≤_}
 use native.Mathlib.Omega.{arith}
+use lib.Dec.{leb}
+use lib.ListN.{length}
+use Rattle.std.proofs.shelf.Tests.{and-left, and-parts, lt-leb, leb-true}
 use Rattle.std.specs.declared.option.Option.{Option}
 use Rattle.std.specs.declared.option.Option.the-variants.{Some, None}
 use Rattle.std.specs.declared.result.Result.{Result}
 use Rattle.std.specs.declared.result.Result.the-variants.{Ok, Err}
-use Rattle.section.specs.Places.{layoutOf, part}
+use Rattle.text.specs.Structure.{structured}
+use Rattle.section.specs.Places.{layoutOf, part, natureOf, alertOf}
 use Rattle.section.specs.Rules.{sized, headed, checks, versioned, adds, ranged, spelled, unless, refusal, orRefused, outcome}
 use Rattle.section.specs.declared.layout.Layout.{Layout}
 use Rattle.section.specs.declared.layout.Span.{Span}
@@ -91,3 +95,20 @@ pub hands : (s : List ℕ) (l : Layout) (f : Layout → Span) (at : ℕ) (bs : L
     → (refusal s ≡ None) × (l ≡ layoutOf s) → at ≡ f l .start → bs ≡ part (f l .start) (f l .end) s
     → (refusal s ≡ None) × (at ≡ f (layoutOf s) .start) × (bs ≡ part (f (layoutOf s) .start) (f (layoutOf s) .end) s)
 hands s l f at bs h a e = (h .0, a ∙ ap (λ x. f x .start) (h .1), e ∙ ap (λ x. part (f x .start) (f x .end) s) (h .1))
+
+-- a section of few bytes is refused by its length
+pub short-refused : (s : List ℕ) → length s < 46 → refusal s ≡ Some Length
+short-refused s h =
+    let no : false ≡ sized s = sym (and-left (leb 46 (length s)) _ (lt-leb 46 (length s) h)) in
+    refused (refusal s) Length (layoutOf s) (length-refused s no)
+
+-- a section that is not refused is neither short nor long
+pub lengths-of : (s : List ℕ) → refusal s ≡ None → (46 ≤ length s) × (length s ≤ 4096)
+lengths-of s h =
+    let a = and-parts (leb 46 (length s)) _ (keeps s h .sizes) in
+    let b = and-parts (leb (length s) 4096) _ (a .1) in
+    (leb-true 46 (length s) (a .0), leb-true (length s) 4096 (b .0))
+
+-- the text fields of a section that is not refused keep their structure
+pub texts-of : (s : List ℕ) → refusal s ≡ None → (structured (natureOf s) ≡ true) × (structured (alertOf s) ≡ true)
+texts-of s h = and-parts (structured (natureOf s)) (structured (alertOf s)) (keeps s h .texts)

@@ -4,3 +4,4 @@ pub mod Head
 pub mod Refusals
 pub mod Rules
 pub mod Parts
+pub mod Texts

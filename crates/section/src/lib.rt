@@ -1,6 +1,7 @@
 // Sections of cable emergency alerts: their rules, fields and parts.
 mod bytes;
 mod check;
+mod decode;
 mod fields;
 mod head;
 mod layout;
@@ -21,3 +22,4 @@ pub use part::Part;
 pub use refusal::QuestionRefusal;
 pub use refusal::SectionRefusal;
 pub use section::Section;
+pub use section::read;

@@ -26,4 +26,8 @@ impl<'a> Section<'a> {
     }
 }
 
+mod numbers;
 mod questions;
+mod texts;
+
+pub use numbers::read;

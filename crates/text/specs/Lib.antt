@@ -3,3 +3,5 @@ pub mod Reading
 pub mod Refusals
 pub mod Said
 pub mod Writing
+pub mod Filling
+pub mod Choosing

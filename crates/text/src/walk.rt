@@ -2,24 +2,24 @@
 ghost use mathlib.Core.Path.{_≡_};
 ghost use lib.ListN.{getD, take, drop};
 ghost use Rattle.std.specs.Options.{mapped};
-ghost use Rattle.text.specs.Structure.{past as pastPart, segmentSize, pastSegment, pastSegments, pastString, pastStrings, structured};
+ghost use Rattle.text.specs.Structure.{past as pastPart, segmentSize, afterSegments, afterString, pastSegment, pastSegments, pastString, pastStrings, structured};
 
 // The byte at `i`, or 0 past the end.
-pub fn byte_at(bytes: &[u8], i: usize) -> u8
+pub(crate) fn byte_at(bytes: &[u8], i: usize) -> u8
     ensures value { λ r. ⌜ r ≡ getD (now (bytes .entry)) i 0 ⌝ }
 {
     if i < bytes.len() { bytes[i] } else { 0 }
 }
 
 // The first `n` bytes, or as many as there are.
-pub fn front(bytes: &[u8], n: usize) -> &[u8]
+pub(crate) fn front(bytes: &[u8], n: usize) -> &[u8]
     ensures value { λ r. ⌜ now r ≡ take n (now (bytes .entry)) ⌝ }
 {
     if n < bytes.len() { &bytes[0..n] } else { bytes }
 }
 
 // What follows the first `n` bytes.
-pub fn after(bytes: &[u8], n: usize) -> &[u8]
+pub(crate) fn after(bytes: &[u8], n: usize) -> &[u8]
     ensures value { λ r. ⌜ now r ≡ drop n (now (bytes .entry)) ⌝ }
 {
     if n < bytes.len() { &bytes[n..] } else { &[] }
@@ -29,7 +29,11 @@ pub fn after(bytes: &[u8], n: usize) -> &[u8]
 fn past(bytes: &[u8], n: usize) -> Option<&[u8]>
     ensures value { λ r. ⌜ mapped now r ≡ pastPart n (now (bytes .entry)) ⌝ }
 {
-    if n <= bytes.len() { Some(&bytes[n..]) } else { None }
+    if n <= bytes.len() {
+        Some(&bytes[n..])
+    } else {
+        None
+    }
 }
 
 // Where the segment at the front ends.
@@ -37,6 +41,31 @@ fn segment_size(bytes: &[u8]) -> usize
     ensures value { λ r. ⌜ r ≡ segmentSize (now (bytes .entry)) ⌝ }
 {
     3 + byte_at(bytes, 2) as usize
+}
+
+// What follows the segment at the front, as far as there is any.
+pub(crate) fn after_segment(bytes: &[u8]) -> &[u8]
+    ensures value { λ r. ⌜ now r ≡ drop (segmentSize (now (bytes .entry))) (now (bytes .entry)) ⌝ }
+{
+    after(bytes, segment_size(bytes))
+}
+
+// What follows `count` segments.
+fn after_segments(count: u8, bytes: &[u8]) -> &[u8]
+    ensures value { λ r. ⌜ now r ≡ afterSegments count (now (bytes .entry)) ⌝ }
+{
+    let mut rest = bytes;
+    for _ in 0..count {
+        rest = after_segment(rest);
+    }
+    rest
+}
+
+// What follows the string at the front.
+pub(crate) fn after_string(bytes: &[u8]) -> &[u8]
+    ensures value { λ r. ⌜ now r ≡ afterString (now (bytes .entry)) ⌝ }
+{
+    after_segments(byte_at(bytes, 3), after(bytes, 4))
 }
 
 // What follows a whole segment.

@@ -14,7 +14,7 @@ use super::Section;
 
 impl<'a> Section<'a> {
     // The layout of a section that breaks no rule.
-    fn layout(&self) -> Result<Layout, SectionRefusal>
+    pub(super) fn layout(&self) -> Result<Layout, SectionRefusal>
         ensures { λ r. ⌜ ByOk r (λ l. (refusal (now (self .entry) .bytes .now) ≡ None) × (l ≡ layoutOf (now (self .entry) .bytes .now))) (λ e. refusal (now (self .entry) .bytes .now) ≡ Some e) ⌝ }
     {
         self.reading

@@ -1,25 +1,31 @@
 // A text made, added to, and written out.
 ghost use mathlib.Core.Path.{_≡_};
 ghost use mathlib.Core.Bool.{cond};
-ghost use mathlib.Core.List.{List, [], _++_};
-ghost use Prim.Native.Nat.{ℕ, _+_, _-_, _≤_, _<_};
+ghost use mathlib.Core.List.{[], _++_};
+ghost use Prim.Native.Nat.{_-_, _≤_};
 ghost use lib.Dec.{leb};
-ghost use lib.ListN.{length, take, drop};
+ghost use lib.ListN.{length};
 ghost use Rattle.text.specs.Said.{said};
 ghost use Rattle.text.specs.Writing.{Written};
-use crate::refusal::TextRefusal;
 use super::LONGEST;
 use super::Text;
+use crate::refusal::TextRefusal;
 
 impl Text {
+    // The text that says nothing.
     pub fn empty() -> Text
         ensures value { λ r. ⌜ said r ≡ [] ⌝ }
     {
-        Text { bytes: [0; LONGEST], len: 0 }
+        Text {
+            bytes: [0; LONGEST],
+            len: 0,
+        }
     }
 
+    // What the text says.
     pub fn as_bytes(&self) -> &[u8]
         ensures value { λ r. ⌜ now r ≡ said (now (self .entry)) ⌝ }
+        ensures bound { λ r. ⌜ length (now r) ≤ 1024 ⌝ }
     {
         &self.bytes[0..self.len]
     }

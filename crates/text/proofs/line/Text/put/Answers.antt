@@ -15,8 +15,8 @@ returns c =
     let all : length (t .bytes) ≡ 1024 = search needs in
     let in-all : t .len ≤ 1024 = t .within in
     let long : length (take (t .len) (t .bytes)) ≡ t .len = length-take-le (t .len) (t .bytes) (omega arith) in
-    record
-      { value = sym (le-leb _ _ (omega arith))
-      ; after = take-putMid (t .len) (t .len + length (c .args .part .now) - t .len) (t .bytes) (c .copy-from-slice .last .self) (t .len + length (c .args .part .now)) (ap (λ n. t .len + n) (sym (ap length (c .copy-from-slice .ensures .after)))) (omega arith)
-          ∙ ap (λ w. take (t .len) (t .bytes) ++ w) (c .copy-from-slice .ensures .after)
-      }
+    record {
+      value = sym (le-leb _ _ (omega arith));
+      after = take-putMid (t .len) (t .len + length (c .args .part .now) - t .len) (t .bytes) (c .copy-from-slice .last .self) (t .len + length (c .args .part .now)) (ap (λ n. t .len + n) (sym (ap length (c .copy-from-slice .ensures .after)))) (omega arith)
+          ∙ ap (λ w. take (t .len) (t .bytes) ++ w) (c .copy-from-slice .ensures .after);
+    }

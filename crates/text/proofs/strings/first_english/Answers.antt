@@ -1,0 +1,27 @@
+use mathlib.Core.Path.{sym, ap, _∙_}
+use mathlib.Core.Bool.{cond}
+use Prim.Native.Nat.{_+_, _-_}
+use native.Mathlib.Omega.{arith}
+use Rattle.std.specs.declared.option.Option.the-variants.{Some}
+use Rattle.text.specs.Structure.{afterString}
+use Rattle.text.specs.Reading.{english}
+use Rattle.text.specs.Choosing.{firstEnglish}
+use Rattle.text.proofs.Walks.{turned}
+use Rattle.text.proofs.strings.first_english.Needs as need
+
+pub returns-then-is-english : need.returns-then-is-english
+returns-then-is-english c =
+    let s = c .loop .rest .now in
+    let m = c .args .count - (c .loop .counter + 1) in
+    record {
+      value = turned firstEnglish (c .args .count) (c .loop .counter) s (omega arith)
+          (ap (λ b. cond b (Some s) (firstEnglish m (afterString s))) (sym (c .if-is-english .taken) ∙ (c .is-english .ensures .value ∙ ap english (c .front .ensures .value)))) (c .loop .inv);
+    }
+
+pub loop-again : need.loop-again
+loop-again c =
+    let s = c .loop .rest .now in
+    let m = c .args .count - (c .loop .counter + 1) in
+    turned firstEnglish (c .args .count) (c .loop .counter) s (omega arith)
+    (ap (firstEnglish m) (c .after-string-rest .ensures .value)
+    ∙ ap (λ b. cond b (Some s) (firstEnglish m (afterString s))) (sym (c .if-is-english .left) ∙ (c .is-english .ensures .value ∙ ap english (c .front .ensures .value)))) (c .loop .inv)
