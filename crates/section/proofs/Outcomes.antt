@@ -1,6 +1,6 @@
--- What a reading keeps, by the tests of the rules in their order. Assumes nothing.
-use mathlib.Core.Path.{_≡_, refl, sym, ap, _∙_}
-use mathlib.Core.Bool.{Bool, true, false, cond}
+-- What follows for a section that is refused, and for one that is not. Assumes nothing.
+use mathlib.Core.Path.{_≡_, refl, ap, _∙_}
+use mathlib.Core.Bool.{Bool, true, false}
 use mathlib.Core.List.{List}
 use Prim.Native.Nat.{ℕ, _<_, _≤_}
 use native.Mathlib.Omega.{arith}
@@ -9,60 +9,13 @@ use lib.ListN.{length}
 use Rattle.std.proofs.shelf.Tests.{and-left, and-parts, lt-leb, leb-true}
 use Rattle.std.specs.declared.option.Option.{Option}
 use Rattle.std.specs.declared.option.Option.the-variants.{Some, None}
-use Rattle.std.specs.declared.result.Result.{Result}
-use Rattle.std.specs.declared.result.Result.the-variants.{Ok, Err}
 use Rattle.text.specs.Structure.{structured}
 use Rattle.section.specs.Places.{layoutOf, part, natureOf, alertOf}
-use Rattle.section.specs.Rules.{sized, headed, checks, versioned, adds, ranged, spelled, unless, refusal, orRefused, outcome}
+use Rattle.section.specs.Rules.{sized, headed, checks, versioned, adds, ranged, spelled, unless, refusal}
 use Rattle.section.specs.declared.layout.Layout.{Layout}
 use Rattle.section.specs.declared.layout.Span.{Span}
 use Rattle.section.specs.declared.refusal.SectionRefusal.{SectionRefusal}
 use Rattle.section.specs.declared.refusal.SectionRefusal.the-variants.{Length, Head, CheckWord, Version, Layout as Lengths, Range, Text}
-
-abbrev by : Layout → Bool → Bool → Bool → Bool → Bool → Bool → Bool → Result Layout SectionRefusal
-by l a b c d e f g =
-    orRefused (unless a Length (unless b Head (unless c CheckWord (unless d Version (unless e Lengths (unless f Range (unless g Text None))))))) l
-
-pub length-refused : (s : List ℕ) → false ≡ sized s → Err Length ≡ outcome s
-unfolding refusal
-length-refused s a = λ i. by (layoutOf s) (a i) (headed s) (checks s) (versioned s) (adds s) (ranged s) (spelled s)
-
-pub head-refused : (s : List ℕ) → true ≡ sized s → false ≡ headed s → Err Head ≡ outcome s
-unfolding refusal
-head-refused s a b = λ i. by (layoutOf s) (a i) (b i) (checks s) (versioned s) (adds s) (ranged s) (spelled s)
-
-pub check-refused : (s : List ℕ) → true ≡ sized s → true ≡ headed s → false ≡ checks s → Err CheckWord ≡ outcome s
-unfolding refusal
-check-refused s a b c = λ i. by (layoutOf s) (a i) (b i) (c i) (versioned s) (adds s) (ranged s) (spelled s)
-
-pub version-refused : (s : List ℕ) → true ≡ sized s → true ≡ headed s → true ≡ checks s → false ≡ versioned s → Err Version ≡ outcome s
-unfolding refusal
-version-refused s a b c d = λ i. by (layoutOf s) (a i) (b i) (c i) (d i) (adds s) (ranged s) (spelled s)
-
-pub lengths-refused : (s : List ℕ) → true ≡ sized s → true ≡ headed s → true ≡ checks s → true ≡ versioned s → false ≡ adds s → Err Lengths ≡ outcome s
-unfolding refusal
-lengths-refused s a b c d e = λ i. by (layoutOf s) (a i) (b i) (c i) (d i) (e i) (ranged s) (spelled s)
-
-pub range-refused : (s : List ℕ) → true ≡ sized s → true ≡ headed s → true ≡ checks s → true ≡ versioned s → true ≡ adds s → false ≡ ranged s → Err Range ≡ outcome s
-unfolding refusal
-range-refused s a b c d e f = λ i. by (layoutOf s) (a i) (b i) (c i) (d i) (e i) (f i) (spelled s)
-
-pub text-refused : (s : List ℕ) → true ≡ sized s → true ≡ headed s → true ≡ checks s → true ≡ versioned s → true ≡ adds s → true ≡ ranged s → false ≡ spelled s → Err Text ≡ outcome s
-unfolding refusal
-text-refused s a b c d e f g = λ i. by (layoutOf s) (a i) (b i) (c i) (d i) (e i) (f i) (g i)
-
-pub none-refused : (s : List ℕ) (l : Layout) → l ≡ layoutOf s → true ≡ sized s → true ≡ headed s → true ≡ checks s → true ≡ versioned s → true ≡ adds s → true ≡ ranged s → true ≡ spelled s → Ok l ≡ outcome s
-unfolding refusal
-none-refused s l h a b c d e f g = λ i. by (h i) (a i) (b i) (c i) (d i) (e i) (f i) (g i)
-
--- what a reading says of the section
-pub taken : (o : Option SectionRefusal) (l m : Layout) → Ok l ≡ orRefused o m → (o ≡ None) × (l ≡ m)
-taken None l m h = (refl, cc)
-taken (Some e) l m h = let z : _≡_ {A = ℕ} 0 1 = cc in absurd (omega arith)
-
-pub refused : (o : Option SectionRefusal) (e : SectionRefusal) (m : Layout) → Err e ≡ orRefused o m → o ≡ Some e
-refused None e m h = let z : _≡_ {A = ℕ} 0 1 = cc in absurd (omega arith)
-refused (Some f) e m h = cc
 
 -- a section that is not refused keeps every rule
 pub record Keeps (s : List ℕ) : Type 0 where
@@ -77,6 +30,9 @@ pub record Keeps (s : List ℕ) : Type 0 where
 kept : (b : Bool) (e : SectionRefusal) (rest : Option SectionRefusal) → unless b e rest ≡ None → (b ≡ true) × (rest ≡ None)
 kept true e rest h = (refl, h)
 kept false e rest h = let z : _≡_ {A = ℕ} 0 1 = cc in absurd (omega arith)
+
+breaks : (b : Bool) (e : SectionRefusal) (rest : Option SectionRefusal) → b ≡ false → unless b e rest ≡ Some e
+breaks b e rest h = ap (λ kept. unless kept e rest) h
 
 pub keeps : (s : List ℕ) → refusal s ≡ None → Keeps s
 unfolding refusal
@@ -98,9 +54,8 @@ hands s l f at bs h a e = (h .0, a ∙ ap (λ x. f x .start) (h .1), e ∙ ap (�
 
 -- a section of few bytes is refused by its length
 pub short-refused : (s : List ℕ) → length s < 46 → refusal s ≡ Some Length
-short-refused s h =
-    let no : false ≡ sized s = sym (and-left (leb 46 (length s)) _ (lt-leb 46 (length s) h)) in
-    refused (refusal s) Length (layoutOf s) (length-refused s no)
+unfolding refusal
+short-refused s h = breaks (sized s) Length _ (and-left (leb 46 (length s)) _ (lt-leb 46 (length s) h))
 
 -- a section that is not refused is neither short nor long
 pub lengths-of : (s : List ℕ) → refusal s ≡ None → (46 ≤ length s) × (length s ≤ 4096)

@@ -9,6 +9,7 @@ use Rattle.std.specs.declared.option.Option.the-variants.{Some, None}
 use Rattle.std.specs.declared.result.Result.{Result}
 use Rattle.std.specs.declared.result.Result.the-variants.{Ok, Err}
 use Rattle.checkword.specs.Register.{checkRegister}
+use Rattle.entries.specs.Locations.{stateOf, partOf, countyOf}
 use Rattle.text.specs.Structure.{structured}
 use Rattle.section.specs.Places.{word, locationsAt, checkAt, layoutOf, natureOf, alertOf, locationsOf}
 use Rattle.section.specs.Values.{secondsOf}
@@ -43,7 +44,7 @@ adds s = eqb (checkAt s + 4) (length s)
 
 -- a location entry: state to 99, subdivision to 9, county to 999
 abbrev pub located : List ℕ → Bool
-located e = leb (getD e 0 0) 99 && (leb (getD e 1 0 / 16) 9 && leb (word e 1 % 1024) 999)
+located e = leb (stateOf e) 99 && (leb (partOf e) 9 && leb (countyOf e) 999)
 
 abbrev pub allLocated : ℕ → List ℕ → Bool
 allLocated zero s = true
@@ -65,8 +66,8 @@ abbrev pub unless : Bool → SectionRefusal → Option SectionRefusal → Option
 unless kept e rest = cond kept rest (Some e)
 
 -- the first rule that is broken, if any is
-unfoldable pub refusal : List ℕ → Option SectionRefusal
-refusal s =
+abbrev pub broken : List ℕ → Option SectionRefusal
+broken s =
     unless (sized s) Length
     (unless (headed s) Head
     (unless (checks s) CheckWord
@@ -74,6 +75,9 @@ refusal s =
     (unless (adds s) Lengths
     (unless (ranged s) Range
     (unless (spelled s) Text None))))))
+
+unfoldable pub refusal : List ℕ → Option SectionRefusal
+refusal s = broken s
 
 -- a value of the section, or its refusal
 abbrev pub orRefused : {A : Type 0} → Option SectionRefusal → A → Result A SectionRefusal

@@ -5,7 +5,7 @@ ghost use Prim.Native.Nat.{ℕ, _+_, _-_, _*_, _/_, _%_, _^_, _<_, _≤_};
 ghost use lib.ListN.{length, getD};
 ghost use Rattle.section.specs.Head.{Heads};
 ghost use Rattle.section.specs.Places.{layoutOf};
-ghost use Rattle.section.specs.Rules.{sized, headed, checks, versioned, adds, ranged, spelled, outcome};
+ghost use Rattle.section.specs.Rules.{sized, headed, checks, versioned, adds, ranged, spelled, broken, orRefused};
 use super::bytes::part_of;
 use super::head::Head;
 use super::head::split_head;
@@ -67,7 +67,7 @@ fn is_spelled(bytes: &[u8], layout: &Layout) -> bool
 
 // The layout of a section that breaks no rule, or the first rule that is broken.
 pub fn check(bytes: &[u8]) -> Result<Layout, SectionRefusal>
-    ensures { λ r. ⌜ r ≡ outcome (now (bytes .entry)) ⌝ }
+    ensures { λ r. ⌜ r ≡ orRefused (broken (now (bytes .entry))) (layoutOf (now (bytes .entry))) ⌝ }
 {
     let Some(head) = split_head(bytes) else {
         return Err(SectionRefusal::Length);

@@ -7,7 +7,6 @@ ghost use Rattle.section.specs.Places.{layoutOf, locationsOf};
 ghost use Rattle.section.specs.Rules.{located, allLocated, bounded, ranged};
 use super::bytes::byte_at;
 use super::bytes::part_of;
-use super::bytes::word_at;
 use super::layout::Layout;
 use super::layout::Span;
 
@@ -15,7 +14,8 @@ use super::layout::Span;
 fn is_located(entry: &[u8]) -> bool
     ensures { λ r. ⌜ r ≡ located (now (entry .entry)) ⌝ }
 {
-    byte_at(entry, 0) <= 99 && byte_at(entry, 1) / 16 <= 9 && word_at(entry, 1) % 1024 <= 999
+    let county = u16::from(byte_at(entry, 1) % 4) * 256 + u16::from(byte_at(entry, 2));
+    byte_at(entry, 0) <= 99 && byte_at(entry, 1) / 16 <= 9 && county <= 999
 }
 
 // So many location entries, one after another.

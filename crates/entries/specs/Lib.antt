@@ -1,0 +1,2 @@
+pub mod Locations
+pub mod Exceptions
