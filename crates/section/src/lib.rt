@@ -20,6 +20,8 @@ pub use fields::SequenceNumber;
 pub use fields::StartTime;
 pub use part::Part;
 pub use refusal::QuestionRefusal;
+pub use refusal::QuestionRefusalDisplay;
 pub use refusal::SectionRefusal;
+pub use refusal::SectionRefusalDisplay;
 pub use section::Section;
 pub use section::read;

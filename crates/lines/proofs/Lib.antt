@@ -1,0 +1,4 @@
+pub mod Decimals
+pub mod Digits
+pub mod Feeds
+pub mod Holding

@@ -1,0 +1,5 @@
+pub mod Decimal
+pub mod Ends
+pub mod Held
+pub mod Hex
+pub mod Tails
