@@ -1,9 +1,11 @@
-// What names a service: its source ID and its channel pair.
-#[derive(Clone, Copy, PartialEq, Eq)]
-pub struct SourceId(pub u16);
+// What a station knows: its services and how alerts reach it.
+mod service;
 
-#[derive(Clone, Copy, PartialEq, Eq)]
-pub struct ChannelPair {
-    pub major: u16,
-    pub minor: u16,
-}
+pub use service::ChannelPair;
+pub use service::ChannelPairEq;
+pub use service::ChannelPairPartialEq;
+pub use service::Path;
+pub use service::Service;
+pub use service::SourceId;
+pub use service::SourceIdEq;
+pub use service::SourceIdPartialEq;
