@@ -5,8 +5,10 @@ mod print;
 use input::Asked;
 use input::ROOM;
 use lines::LineBuffer;
+use records::Record;
 use section::Section;
 use section::SectionRefusal;
+use std::alloc::AllocError;
 use std::io;
 use std::io::BufReader;
 use std::io::BufWriter;
@@ -16,16 +18,20 @@ use std::io::Write;
 const MOST: usize = 16_384;
 
 // One line's record. A section past the room is refused by its length alone.
-fn answer<W: Write>(
-    out: &mut W,
+fn answer(
+    out: &mut Record,
     asked: Asked,
     room: &[u8; ROOM],
     line: u64,
     section: u64,
-) -> io::Result<()> {
+) -> Result<(), AllocError> {
     match asked {
         Asked::Nothing => Ok(()),
-        Asked::Unknown => writeln!(out, "call=none line={line}"),
+        Asked::Unknown => {
+            out.text(b"call=none line=")?;
+            out.number(line)?;
+            out.text(b"\n")
+        }
         Asked::Section(size) => {
             if size > ROOM as u64 {
                 return print::refused(out, section, size, SectionRefusal::Length);
@@ -40,6 +46,7 @@ fn run(rt: &LibcRuntime) -> io::Result<()> {
     let mut input = BufReader::new(rt.stdin());
     let mut out = BufWriter::new(rt.stdout());
     let mut line = LineBuffer::new(rt.alloc(), MOST);
+    let mut record = Record::new(rt.alloc());
     let mut room = [0u8; ROOM];
     let mut sections = 0u64;
     for number in 1..u64::MAX {
@@ -54,7 +61,9 @@ fn run(rt: &LibcRuntime) -> io::Result<()> {
         if let Asked::Section(_) = asked {
             sections = sections.saturating_add(1);
         }
-        answer(&mut out, asked, &room, number, sections)?;
+        record.clear();
+        answer(&mut record, asked, &room, number, sections)?;
+        out.write_all(record.bytes())?;
     }
     out.flush()
 }

@@ -1,13 +1,12 @@
 // One record for a section.
 use entries::Exception;
 use entries::Location;
+use records::Record;
 use section::Fields;
 use section::Part;
 use section::Section;
 use section::SectionRefusal;
-use section::SectionRefusalDisplay;
-use std::io;
-use std::io::Write;
+use std::alloc::AllocError;
 use text::Text;
 
 // The numbers and parts that are printed of a section.
@@ -30,22 +29,33 @@ fn contents_of<'a>(section: &Section<'a>) -> Result<Contents<'a>, SectionRefusal
     })
 }
 
-pub fn refused<W: Write>(
-    out: &mut W,
+fn opening(out: &mut Record, number: u64, size: u64) -> Result<(), AllocError> {
+    out.text(b"section=")?;
+    out.number(number)?;
+    out.text(b" bytes=")?;
+    out.number(size)
+}
+
+pub fn refused(
+    out: &mut Record,
     number: u64,
     size: u64,
     refusal: SectionRefusal,
-) -> io::Result<()> {
-    let code = refusal.number();
-    writeln!(out, "section={number} bytes={size} refused={code} {refusal}")
+) -> Result<(), AllocError> {
+    opening(out, number, size)?;
+    out.text(b" refused=")?;
+    out.number(u64::from(refusal.number()))?;
+    out.text(b" ")?;
+    out.text(refusal.cause().as_bytes())?;
+    out.text(b"\n")
 }
 
-pub fn section<W: Write>(
-    out: &mut W,
+pub fn section(
+    out: &mut Record,
     number: u64,
     size: u64,
     section: &Section<'_>,
-) -> io::Result<()> {
+) -> Result<(), AllocError> {
     let contents = match contents_of(section) {
         Ok(contents) => contents,
         Err(refusal) => return refused(out, number, size, refusal),
@@ -58,65 +68,69 @@ pub fn section<W: Write>(
         Ok(text) => text,
         Err(refusal) => return refused(out, number, size, refusal),
     };
-    writeln!(out, "section={number} bytes={size} taken")?;
+    opening(out, number, size)?;
+    out.text(b" taken")?;
     taken(out, &contents, &nature, &text)
 }
 
-fn taken<W: Write>(out: &mut W, c: &Contents<'_>, nature: &Text, text: &Text) -> io::Result<()> {
+// Each line begins with the line feed of the one before.
+fn taken(
+    out: &mut Record,
+    c: &Contents<'_>,
+    nature: &Text,
+    text: &Text,
+) -> Result<(), AllocError> {
     identity(out, c)?;
-    words(out, b"  nature=", nature.as_bytes())?;
+    out.text(b"\n  nature=")?;
+    out.text(nature.as_bytes())?;
     times(out, &c.fields)?;
     services(out, &c.fields)?;
-    words(out, b"  text=", text.as_bytes())?;
+    out.text(b"\n  text=")?;
+    out.text(text.as_bytes())?;
     locations(out, c.locations.bytes)?;
     exceptions(out, c.exceptions.bytes)?;
-    let size = c.descriptors.bytes.len();
-    let at = c.descriptors.at;
-    writeln!(out, "  descriptors={size} at={at}")
+    field(out, b"\n  descriptors=", c.descriptors.bytes.len() as u64)?;
+    field(out, b" at=", c.descriptors.at as u64)?;
+    out.text(b"\n")
 }
 
-fn identity<W: Write>(out: &mut W, c: &Contents<'_>) -> io::Result<()> {
-    let sequence = c.fields.sequence.0;
-    let event_id = c.fields.event_id.0;
-    let at = c.event_code.at;
-    writeln!(out, "  sequence={sequence}\n  event_id={event_id}")?;
-    out.write_all(b"  originator=")?;
+fn field(out: &mut Record, key: &[u8], number: u64) -> Result<(), AllocError> {
+    out.text(key)?;
+    out.number(number)
+}
+
+fn identity(out: &mut Record, c: &Contents<'_>) -> Result<(), AllocError> {
+    field(out, b"\n  sequence=", u64::from(c.fields.sequence.0))?;
+    field(out, b"\n  event_id=", u64::from(c.fields.event_id.0))?;
+    out.text(b"\n  originator=")?;
     code(out, &c.fields.originator)?;
-    out.write_all(b"\n  event_code=")?;
+    out.text(b"\n  event_code=")?;
     code(out, c.event_code.bytes)?;
-    writeln!(out, " at={at}")
+    field(out, b" at=", c.event_code.at as u64)
 }
 
-fn times<W: Write>(out: &mut W, fields: &Fields) -> io::Result<()> {
-    let seconds = fields.seconds.0;
-    let start = fields.start.0;
-    let duration = fields.duration.0;
-    let priority = fields.priority.0;
-    writeln!(out, "  seconds={seconds}\n  start={start}\n  duration={duration}\n  priority={priority}")
+fn times(out: &mut Record, fields: &Fields) -> Result<(), AllocError> {
+    field(out, b"\n  seconds=", u64::from(fields.seconds.0))?;
+    field(out, b"\n  start=", u64::from(fields.start.0))?;
+    field(out, b"\n  duration=", u64::from(fields.duration.0))?;
+    field(out, b"\n  priority=", u64::from(fields.priority.0))
 }
 
-fn services<W: Write>(out: &mut W, fields: &Fields) -> io::Result<()> {
-    let details = fields.details_source.0;
-    let major = fields.details_channel.major;
-    let minor = fields.details_channel.minor;
-    let audio = fields.audio_source.0;
-    writeln!(out, "  details_source={details}\n  details_channel={major}-{minor}\n  audio_source={audio}")
-}
-
-fn words<W: Write>(out: &mut W, key: &[u8], words: &[u8]) -> io::Result<()> {
-    out.write_all(key)?;
-    out.write_all(words)?;
-    out.write_all(b"\n")
+fn services(out: &mut Record, fields: &Fields) -> Result<(), AllocError> {
+    field(out, b"\n  details_source=", u64::from(fields.details_source.0))?;
+    field(out, b"\n  details_channel=", u64::from(fields.details_channel.major))?;
+    field(out, b"-", u64::from(fields.details_channel.minor))?;
+    field(out, b"\n  audio_source=", u64::from(fields.audio_source.0))
 }
 
 // As text where every byte is a visible character, else in hexadecimal.
-fn code<W: Write>(out: &mut W, bytes: &[u8]) -> io::Result<()> {
+fn code(out: &mut Record, bytes: &[u8]) -> Result<(), AllocError> {
     if is_visible(bytes) {
-        return out.write_all(bytes);
+        return out.text(bytes);
     }
-    out.write_all(b"0x")?;
+    out.text(b"0x")?;
     for byte in bytes {
-        write!(out, "{byte:02X}")?;
+        out.hex_byte(*byte)?;
     }
     Ok(())
 }
@@ -130,32 +144,31 @@ fn is_visible(bytes: &[u8]) -> bool {
     true
 }
 
-fn locations<W: Write>(out: &mut W, bytes: &[u8]) -> io::Result<()> {
+fn locations(out: &mut Record, bytes: &[u8]) -> Result<(), AllocError> {
     let (entries, _) = bytes.as_chunks::<3>();
     for entry in entries {
         let location = Location::read(entry);
-        let state = location.state;
-        let county = location.county;
-        let part = location.part;
-        writeln!(out, "  location={state}-{county}-{part}")?;
+        field(out, b"\n  location=", u64::from(location.state))?;
+        field(out, b"-", u64::from(location.county))?;
+        field(out, b"-", u64::from(location.part))?;
     }
     Ok(())
 }
 
-fn exceptions<W: Write>(out: &mut W, bytes: &[u8]) -> io::Result<()> {
+fn exceptions(out: &mut Record, bytes: &[u8]) -> Result<(), AllocError> {
     let (entries, _) = bytes.as_chunks::<5>();
     for entry in entries {
-        match Exception::read(entry) {
-            Exception::Channel(pair) => {
-                let major = pair.major;
-                let minor = pair.minor;
-                writeln!(out, "  exception=channel:{major}-{minor}")?;
-            }
-            Exception::Source(id) => {
-                let source = id.0;
-                writeln!(out, "  exception=source:{source}")?;
-            }
-        }
+        exception(out, Exception::read(entry))?;
     }
     Ok(())
+}
+
+fn exception(out: &mut Record, entry: Exception) -> Result<(), AllocError> {
+    match entry {
+        Exception::Channel(pair) => {
+            field(out, b"\n  exception=channel:", u64::from(pair.major))?;
+            field(out, b"-", u64::from(pair.minor))
+        }
+        Exception::Source(id) => field(out, b"\n  exception=source:", u64::from(id.0)),
+    }
 }

@@ -5,7 +5,7 @@ use mathlib.Core.List.{List, [], _∷_}
 use Prim.Native.Nat.{ℕ, zero, suc}
 use lib.ListN.{getD, take, drop}
 use Rattle.std.specs.declared.option.Option.{Option}
-use Rattle.std.specs.declared.option.Option.the-variants.{Some, None}
+use Rattle.std.specs.declared.option.Option.the-variants.{Some}
 use Rattle.text.specs.Structure.{afterString, strings}
 use Rattle.text.specs.Reading.{characters, cut, english, spoken, textOf}
 use Rattle.text.specs.Choosing.{chosen, firstEnglish}

@@ -1,14 +1,15 @@
 -- Steps of a walk over a text field, of which i of k turns are done. Assumes nothing.
 use mathlib.Core.Path.{_≡_, refl, sym, ap, _∙_}
+use mathlib.Core.Logic.{⊎-elim}
 use mathlib.Core.Bool.{true, cond}
 use mathlib.Core.List.{List}
-use Prim.Native.Nat.{ℕ, suc, _+_, _-_, _<_, _≤_}
+use Prim.Native.Nat.{ℕ, suc, min, _+_, _-_, _<_, _≤_}
 use native.Mathlib.Omega.{arith}
 use lib.ListN.{length, take, drop}
 use borrow.Author.Tests.{le-leb}
-use Rattle.std.proofs.shelf.Lists.{take-rest}
+use Rattle.std.proofs.shelf.Lists.{take-rest, take-all, drop-all}
 use Rattle.std.specs.declared.option.Option.the-variants.{Some, None}
-use Rattle.std.proofs.shelf.Tests.{and-parts}
+use Rattle.std.proofs.shelf.Tests.{and-parts, cases-lt}
 use Rattle.text.specs.Structure.{past, segmentAt, segmentSize, segments}
 use Rattle.text.specs.Reading.{readable, allReadable}
 
@@ -24,3 +25,17 @@ readable-turn k i s h inv =
 -- `&s[n..]`, as the checker reads it
 pub past-some : (n : ℕ) (s : List ℕ) → n ≤ length s → Some (take (length s - n) (drop n s)) ≡ past n s
 past-some n s h = ap Some (take-rest s n) ∙ sym (ap (λ b. cond b (Some (drop n s)) None) (le-leb n (length s) h))
+
+-- bytes taken or dropped past the end are as many as there are
+within : (F : ℕ → List ℕ) (n l : ℕ) → (l ≤ n → F l ≡ F n) → F (min n l) ≡ F n
+within F n l past-end =
+    ⊎-elim
+    (λ h. let e : min n l ≡ n = omega arith in ap F e)
+    (λ h. let e : min n l ≡ l = omega arith in ap F e ∙ past-end h)
+    (cases-lt n l)
+
+pub take-within : (n : ℕ) (s : List ℕ) → take (min n (length s)) s ≡ take n s
+take-within n s = within (λ k. take k s) n (length s) (λ h. take-all (length s) s (omega arith) ∙ sym (take-all n s h))
+
+pub drop-within : (n : ℕ) (s : List ℕ) → drop (min n (length s)) s ≡ drop n s
+drop-within n s = within (λ k. drop k s) n (length s) (λ h. drop-all (length s) s (omega arith) ∙ sym (drop-all n s h))

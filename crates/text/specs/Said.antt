@@ -8,7 +8,7 @@ use Rattle.std.specs.declared.result.Result.{Result}
 use Rattle.std.specs.declared.result.Result.the-variants.{Ok, Err}
 use Rattle.text.specs.declared.line.Text.{Text}
 use Rattle.text.specs.declared.refusal.TextRefusal.{TextRefusal}
-use Rattle.text.specs.declared.refusal.TextRefusal.the-variants.{Broken, Short}
+use Rattle.text.specs.declared.refusal.TextRefusal.the-variants.{Broken}
 use Rattle.text.specs.Structure.{structured}
 use Rattle.text.specs.Reading.{textOf}
 

@@ -16,6 +16,3 @@ pub use refusal::TextRefusalDisplay;
 pub use refusal::TextRefusalEq;
 pub use refusal::TextRefusalPartialEq;
 pub use walk::is_structured;
-
-#[cfg(test)]
-mod tests;

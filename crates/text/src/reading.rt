@@ -41,3 +41,18 @@ pub fn write_english(field: &[u8], out: &mut [u8]) -> Result<usize, TextRefusal>
         Err(refusal) => Err(refusal),
     }
 }
+
+#[cfg(test)]
+mod tests {
+    use super::english;
+    use crate::refusal::TextRefusalDebug;
+    use std::test::*;
+
+    #[test]
+    fn says() -> Result<(), Fail> {
+        let plain = english(&[1, 0x65, 0x6E, 0x67, 1, 0, 0, 2, 0x4F, 0x4B])?;
+        check_eq(plain.as_bytes(), &[0x4F, 0x4B][..])?;
+        let cyrillic = english(&[1, 0x65, 0x6E, 0x67, 1, 0, 4, 1, 0x10])?;
+        check_eq(cyrillic.as_bytes(), &[0xD0, 0x90][..])
+    }
+}

@@ -22,13 +22,20 @@ fn is_english(language: &[u8]) -> bool
     byte_at(language, 0) == b'e' && byte_at(language, 1) == b'n' && byte_at(language, 2) == b'g'
 }
 
+// Whether the string at the front is one to be read.
+fn is_sought(bytes: &[u8]) -> bool
+    ensures value { λ r. ⌜ r ≡ english (stringAt (now (bytes .entry)) .language) ⌝ }
+{
+    is_english(front(bytes, 3))
+}
+
 // Where the first English one of `count` strings begins.
 pub(crate) fn first_english(count: u8, bytes: &[u8]) -> Option<&[u8]>
     ensures value { λ r. ⌜ mapped now r ≡ firstEnglish count (now (bytes .entry)) ⌝ }
 {
     let mut rest = bytes;
     for _ in 0..count {
-        if is_english(front(rest, 3)) {
+        if is_sought(rest) {
             return Some(rest);
         }
         rest = after_string(rest);

@@ -15,14 +15,14 @@ pub(crate) fn byte_at(bytes: &[u8], i: usize) -> u8
 pub(crate) fn front(bytes: &[u8], n: usize) -> &[u8]
     ensures value { λ r. ⌜ now r ≡ take n (now (bytes .entry)) ⌝ }
 {
-    if n < bytes.len() { &bytes[0..n] } else { bytes }
+    &bytes[0..n.min(bytes.len())]
 }
 
 // What follows the first `n` bytes.
 pub(crate) fn after(bytes: &[u8], n: usize) -> &[u8]
     ensures value { λ r. ⌜ now r ≡ drop n (now (bytes .entry)) ⌝ }
 {
-    if n < bytes.len() { &bytes[n..] } else { &[] }
+    &bytes[n.min(bytes.len())..]
 }
 
 // What follows a part of `n` bytes, or nothing where the bytes do not reach.

@@ -2,9 +2,10 @@
 ghost use mathlib.Core.Path.{_≡_};
 ghost use mathlib.Core.Bool.{cond};
 ghost use mathlib.Core.List.{[], _++_};
-ghost use Prim.Native.Nat.{_-_, _≤_};
+ghost use Prim.Native.Nat.{_≤_};
 ghost use lib.Dec.{leb};
 ghost use lib.ListN.{length};
+ghost use Rattle.text.specs.Filling.{room};
 ghost use Rattle.text.specs.Said.{said};
 ghost use Rattle.text.specs.Writing.{Written};
 use super::LONGEST;
@@ -32,7 +33,7 @@ impl Text {
 
     // Adds a part at the end if it fits whole.
     pub(crate) fn put(&mut self, part: &[u8]) -> bool
-        ensures value { λ r. ⌜ r ≡ leb (length (now (part .entry))) (1024 - length (said (now (self .entry)))) ⌝ }
+        ensures value { λ r. ⌜ r ≡ leb (length (now (part .entry))) (room (said (now (self .entry)))) ⌝ }
         ensures after { λ r. ⌜ said (now (self .exit)) ≡ cond r (said (now (self .entry)) ++ now (part .entry)) (said (now (self .entry))) ⌝ }
     {
         let at = self.len;

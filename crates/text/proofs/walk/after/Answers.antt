@@ -1,10 +1,8 @@
-use mathlib.Core.Path.{sym}
-use native.Mathlib.Omega.{arith}
-use Rattle.std.proofs.shelf.Lists.{take-rest, drop-all}
+use mathlib.Core.Path.{ap, _∙_}
+use lib.ListN.{drop}
+use Rattle.std.proofs.shelf.Lists.{take-rest}
+use Rattle.text.proofs.Walks.{drop-within}
 use Rattle.text.proofs.walk.after.Needs as need
 
-pub returns-then-n-bytes : need.returns-then-n-bytes
-returns-then-n-bytes c = record { value = take-rest (c .args .bytes .now) (c .args .n) }
-
-pub returns-else-n-bytes : need.returns-else-n-bytes
-returns-else-n-bytes c = record { value = sym (drop-all (c .args .n) (c .args .bytes .now) (omega arith)) }
+pub returns : need.returns
+returns c = record { value = take-rest (c .args .bytes .now) (c .min .result) ∙ (ap (λ k. drop k (c .args .bytes .now)) (c .min .ensures) ∙ drop-within (c .args .n) (c .args .bytes .now)) }
