@@ -4,6 +4,11 @@
 #include <stdlib.h>
 #include <string.h>
 #include <time.h>
+#ifdef WITH_DVBPSI
+#include <stdbool.h>
+#include <dvbpsi/dvbpsi.h>
+#include <dvbpsi/psi.h>
+#endif
 #ifdef WITH_AVUTIL
 #include <libavutil/crc.h>
 #endif
@@ -27,6 +32,18 @@ static uint32_t by_table(const uint8_t *bytes, size_t length) {
     for (size_t i = 0; i < length; i++) r = r << 8 ^ table[r >> 24 ^ bytes[i]];
     return r;
 }
+
+#ifdef WITH_DVBPSI
+static uint32_t by_dvbpsi(const uint8_t *bytes, size_t length) {
+    dvbpsi_psi_section_t s = {.b_syntax_indicator = true, .p_data = (uint8_t *)bytes, .p_payload_end = (uint8_t *)bytes + length};
+    static uint8_t room[4200];
+    memcpy(room, bytes, length); /* it writes the check word behind the bytes */
+    s.p_data = room;
+    s.p_payload_end = room + length;
+    dvbpsi_CalculateCRC32(&s);
+    return s.i_crc;
+}
+#endif
 
 #ifdef WITH_AVUTIL
 static uint32_t by_avutil(const uint8_t *bytes, size_t length) {
@@ -60,6 +77,11 @@ static void compare(const uint8_t *bytes, size_t length) {
     double c = speed(by_table, bytes, length, &sum);
     double ours = speed(kinvouzel_check_word, bytes, length, &sum);
     printf("check word, %4zu bytes: C by table %6.0f MB/s, ours %6.0f MB/s (%.1f times)", length, c, ours, ours / c);
+#ifdef WITH_DVBPSI
+    double dvbpsi = speed(by_dvbpsi, bytes, length, &sum);
+    printf(", libdvbpsi %6.0f MB/s (ours %.1f times)", dvbpsi, ours / dvbpsi);
+    if (by_dvbpsi(bytes, length) != by_table(bytes, length)) printf(" libdvbpsi gives another check word");
+#endif
 #ifdef WITH_AVUTIL
     double av = speed(by_avutil, bytes, length, &sum);
     printf(", av_crc %6.0f MB/s (ours %.2f times)", av, ours / av);
