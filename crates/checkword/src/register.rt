@@ -4,6 +4,7 @@ ghost use Prim.Native.Nat.{ℕ, _+_, _-_, _*_, _/_, _%_, _^_, _<_, _≤_};
 ghost use lib.ListN.{length, getD};
 ghost use lib.Bits.{bitXor};
 ghost use Rattle.checkword.specs.Register.{moved, moves, entered, checkRegister};
+use super::tables::AFTER_8;
 use super::tables::AFTER_16;
 use super::tables::AFTER_24;
 use super::tables::AFTER_32;
@@ -11,7 +12,6 @@ use super::tables::AFTER_40;
 use super::tables::AFTER_48;
 use super::tables::AFTER_56;
 use super::tables::AFTER_64;
-use super::tables::AFTER_8;
 
 // One byte goes in.
 fn enter(register: u32, byte: u8) -> u32

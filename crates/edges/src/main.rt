@@ -22,8 +22,16 @@ struct Example {
 fn check_values<W: Write + Drop>(tally: &mut Tally<W>) -> io::Result<()> {
     let published = checkword::check_word(b"123456789");
     tally.number("check word of 123456789", 0x0376_E6E7, published)?;
-    tally.number("check word of nothing", 0xFFFF_FFFF, checkword::check_word(&[]))?;
-    tally.number("check word of a whole section", 0, checkword::check_word(&examples::HWW))
+    tally.number(
+        "check word of nothing",
+        0xFFFF_FFFF,
+        checkword::check_word(&[]),
+    )?;
+    tally.number(
+        "check word of a whole section",
+        0,
+        checkword::check_word(&examples::HWW),
+    )
 }
 
 fn try_example<W: Write + Drop>(tally: &mut Tally<W>, e: Example) -> io::Result<()> {
@@ -35,8 +43,16 @@ fn try_example<W: Write + Drop>(tally: &mut Tally<W>, e: Example) -> io::Result<
     tally.number(e.name, 0, refusal)?;
     if let Ok(fields) = section.fields() {
         tally.number("  event ID", e.event_id, u32::from(fields.event_id.0))?;
-        tally.number("  sequence number", e.sequence, u32::from(fields.sequence.0))?;
-        tally.number("  seconds remaining", e.seconds, u32::from(fields.seconds.0))?;
+        tally.number(
+            "  sequence number",
+            e.sequence,
+            u32::from(fields.sequence.0),
+        )?;
+        tally.number(
+            "  seconds remaining",
+            e.seconds,
+            u32::from(fields.seconds.0),
+        )?;
     }
     if let Ok(code) = section.event_code() {
         tally.bytes("  event code", e.name.as_bytes(), code.bytes)?;

@@ -8,7 +8,7 @@ ghost use Rattle.std.specs.Written.{decimal as digitsOf};
 pub const MOST: usize = 20;
 
 // Writes the digits at the end of `digits`, and says where they start.
-pub fn spell(n: u64, digits: &mut [u8; MOST]) -> usize
+pub(crate) fn spell(n: u64, digits: &mut [u8; MOST]) -> usize
     ensures value { λ r. ⌜ drop r (now (digits .exit)) ≡ digitsOf n ⌝ }
     ensures bound { λ r. ⌜ r ≤ 20 ⌝ }
 {

@@ -7,10 +7,14 @@ fn hex_digit(nibble: u8) -> u8
     requires { ⌜ nibble < 16 ⌝ }
     ensures { λ r. ⌜ r ≡ digit nibble ⌝ }
 {
-    if nibble < 10 { b'0' + nibble } else { b'A' - 10 + nibble }
+    if nibble < 10 {
+        b'0' + nibble
+    } else {
+        b'A' - 10 + nibble
+    }
 }
 
-pub fn in_hex(byte: u8) -> [u8; 2]
+pub(crate) fn in_hex(byte: u8) -> [u8; 2]
     ensures { λ r. ⌜ r ≡ inHex byte ⌝ }
 {
     [hex_digit(byte / 16), hex_digit(byte % 16)]

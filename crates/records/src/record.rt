@@ -5,8 +5,8 @@ ghost use Rattle.std.specs.Of.Vec.{vec-items};
 ghost use Rattle.std.specs.Written.{decimal as digitsOf};
 ghost use Rattle.records.specs.Written.{Adds, inHex};
 use super::decimal::MOST;
-use super::hex::in_hex;
 use super::decimal::spell;
+use super::hex::in_hex;
 use std::alloc::AllocError;
 use std::alloc::Global;
 

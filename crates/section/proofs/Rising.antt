@@ -28,7 +28,7 @@ rises s =
       locations = omega arith;
       exceptions = omega arith;
       descriptors = omega arith;
-      check = omega arith
+      check = omega arith;
     }
 
 pub fills : (s : List ℕ) → adds s ≡ true → checkAt s + 4 ≡ length s

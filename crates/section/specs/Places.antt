@@ -53,7 +53,7 @@ layoutOf s =
       «location_count» = getD s (locationsAt s) 0;
       locations = span (locationsAt s + 1) (exceptionsAt s);
       exceptions = span (exceptionsAt s + 1) (descriptorsAt s);
-      descriptors = span (descriptorsAt s + 2) (checkAt s)
+      descriptors = span (descriptorsAt s + 2) (checkAt s);
     }
 
 -- the bytes from a place to another

@@ -53,5 +53,5 @@ fieldsOf s =
       priority = record { 0 = priorityOf s };
       «details_source» = record { 0 = detailsSourceOf s };
       «details_channel» = record { major = detailsMajorOf s; minor = detailsMinorOf s };
-      «audio_source» = record { 0 = audioSourceOf s }
+      «audio_source» = record { 0 = audioSourceOf s };
     }

@@ -6,14 +6,14 @@ ghost use Rattle.section.specs.Places.{word, part};
 use super::layout::Span;
 use super::part::Part;
 
-pub fn byte_at(bytes: &[u8], at: usize) -> u8
+pub(crate) fn byte_at(bytes: &[u8], at: usize) -> u8
     ensures { λ r. ⌜ r ≡ getD (now (bytes .entry)) at 0 ⌝ }
 {
     if at < bytes.len() { bytes[at] } else { 0 }
 }
 
 // Two bytes as a number, the first highest.
-pub fn word_at(bytes: &[u8], at: usize) -> u16
+pub(crate) fn word_at(bytes: &[u8], at: usize) -> u16
     requires { ⌜ at < 2 ^ 32 ⌝ }
     ensures { λ r. ⌜ r ≡ word (now (bytes .entry)) at ⌝ }
 {
@@ -21,7 +21,7 @@ pub fn word_at(bytes: &[u8], at: usize) -> u16
 }
 
 // The bytes of a span, as far as there are any.
-pub fn part_of(bytes: &[u8], span: Span) -> &[u8]
+pub(crate) fn part_of(bytes: &[u8], span: Span) -> &[u8]
     ensures { λ r. ⌜ now r ≡ part (span .start) (span .end) (now (bytes .entry)) ⌝ }
 {
     let start = span.start;
@@ -36,7 +36,7 @@ pub fn part_of(bytes: &[u8], span: Span) -> &[u8]
 }
 
 // The same, with its place.
-pub fn part_at<'a>(bytes: &'a [u8], span: Span) -> Part<'a>
+pub(crate) fn part_at<'a>(bytes: &'a [u8], span: Span) -> Part<'a>
     ensures at { λ r. ⌜ r .at ≡ span .start ⌝ }
     ensures value { λ r. ⌜ r .bytes .now ≡ part (span .start) (span .end) (now (bytes .entry)) ⌝ }
 {

@@ -66,7 +66,7 @@ fn is_spelled(bytes: &[u8], layout: &Layout) -> bool
 }
 
 // The layout of a section that breaks no rule, or the first rule that is broken.
-pub fn check(bytes: &[u8]) -> Result<Layout, SectionRefusal>
+pub(crate) fn check(bytes: &[u8]) -> Result<Layout, SectionRefusal>
     ensures { λ r. ⌜ r ≡ orRefused (broken (now (bytes .entry))) (layoutOf (now (bytes .entry))) ⌝ }
 {
     let Some(head) = split_head(bytes) else {

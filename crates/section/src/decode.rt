@@ -26,14 +26,18 @@ fn start_time(bytes: &[u8], times: usize) -> u32
     u32::from(word_at(bytes, times + 1)) * 65536 + u32::from(word_at(bytes, times + 3))
 }
 
-pub fn decode(bytes: &[u8], head: &Head<'_>, times: usize) -> Fields
+pub(crate) fn decode(bytes: &[u8], head: &Head<'_>, times: usize) -> Fields
     requires { ⌜ Heads (now head) (now bytes) ⌝ }
     requires { ⌜ times < 2 ^ 16 ⌝ }
     requires { ⌜ times ≡ timesAt (now bytes) ⌝ }
     ensures { λ r. ⌜ r ≡ fieldsOf (now (bytes .entry)) ⌝ }
 {
     let event_id = word_at(head.body, 0);
-    let originator = [byte_at(head.body, 2), byte_at(head.body, 3), byte_at(head.body, 4)];
+    let originator = [
+        byte_at(head.body, 2),
+        byte_at(head.body, 3),
+        byte_at(head.body, 4),
+    ];
     let duration = word_at(bytes, times + 5);
     let priority = word_at(bytes, times + 7) % 16;
     let details_source = word_at(bytes, times + 9);

@@ -5,7 +5,6 @@ ghost use lib.ListN.{length};
 ghost use Rattle.std.specs.Options.{Cases as BySome};
 ghost use Rattle.section.specs.Head.{Heads};
 
-
 #[derive(Clone, Copy)]
 pub struct Head<'a> {
     pub table_id: u8,
@@ -22,11 +21,21 @@ pub struct Head<'a> {
 }
 
 // The head and the body, where there are nine bytes.
-pub fn split_head<'a>(bytes: &'a [u8]) -> Option<Head<'a>>
+pub(crate) fn split_head<'a>(bytes: &'a [u8]) -> Option<Head<'a>>
     ensures { λ r. ⌜ BySome r (length (now (bytes .entry)) < 9) (λ h. Heads h (now (bytes .entry))) ⌝ }
 {
-    let [table_id, length_high, length_low, extension_high, extension_low, version, section_number, last_section_number, protocol_version, body @ ..] =
-        bytes
+    let [
+        table_id,
+        length_high,
+        length_low,
+        extension_high,
+        extension_low,
+        version,
+        section_number,
+        last_section_number,
+        protocol_version,
+        body @ ..,
+    ] = bytes
     else {
         return None;
     };

@@ -27,7 +27,13 @@ fn all_located(count: u8, entries: &[u8]) -> bool
         if !is_located(rest) {
             return false;
         }
-        rest = part_of(rest, Span { start: 3, end: rest.len() });
+        rest = part_of(
+            rest,
+            Span {
+                start: 3,
+                end: rest.len(),
+            },
+        );
     }
     true
 }
@@ -40,7 +46,7 @@ fn is_bounded(seconds: u8, count: u8) -> bool
 }
 
 // Seconds, the number of location entries, and each of them.
-pub fn is_ranged(bytes: &[u8], layout: &Layout) -> bool
+pub(crate) fn is_ranged(bytes: &[u8], layout: &Layout) -> bool
     requires { ⌜ now layout ≡ layoutOf (now bytes) ⌝ }
     ensures { λ r. ⌜ r ≡ ranged (now (bytes .entry)) ⌝ }
 {

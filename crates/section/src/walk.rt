@@ -16,7 +16,7 @@ fn after_counted(bytes: &[u8], at: usize, unit: usize) -> usize
     at + 1 + unit * usize::from(byte_at(bytes, at))
 }
 
-pub fn lay_out(bytes: &[u8]) -> Layout
+pub(crate) fn lay_out(bytes: &[u8]) -> Layout
     ensures { λ r. ⌜ r ≡ layoutOf (now (bytes .entry)) ⌝ }
 {
     let nature = after_counted(bytes, 14, 1);
@@ -27,13 +27,31 @@ pub fn lay_out(bytes: &[u8]) -> Layout
     let descriptors = after_counted(bytes, exceptions, 5);
     let check_word = descriptors + 2 + usize::from(word_at(bytes, descriptors) % 1024);
     Layout {
-        event_code: Span { start: 15, end: nature },
-        nature: Span { start: nature + 1, end: times },
+        event_code: Span {
+            start: 15,
+            end: nature,
+        },
+        nature: Span {
+            start: nature + 1,
+            end: times,
+        },
         times,
-        alert: Span { start: text, end: locations },
+        alert: Span {
+            start: text,
+            end: locations,
+        },
         location_count: byte_at(bytes, locations),
-        locations: Span { start: locations + 1, end: exceptions },
-        exceptions: Span { start: exceptions + 1, end: descriptors },
-        descriptors: Span { start: descriptors + 2, end: check_word },
+        locations: Span {
+            start: locations + 1,
+            end: exceptions,
+        },
+        exceptions: Span {
+            start: exceptions + 1,
+            end: descriptors,
+        },
+        descriptors: Span {
+            start: descriptors + 2,
+            end: check_word,
+        },
     }
 }

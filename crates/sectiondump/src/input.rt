@@ -1,6 +1,6 @@
 // What a line of input asks for.
-use lines::LineBuffer;
 use lines::HexRefusal;
+use lines::LineBuffer;
 use lines::Tail;
 
 // No well-formed section is longer.

@@ -74,12 +74,7 @@ pub fn section(
 }
 
 // Each line begins with the line feed of the one before.
-fn taken(
-    out: &mut Record,
-    c: &Contents<'_>,
-    nature: &Text,
-    text: &Text,
-) -> Result<(), AllocError> {
+fn taken(out: &mut Record, c: &Contents<'_>, nature: &Text, text: &Text) -> Result<(), AllocError> {
     identity(out, c)?;
     out.text(b"\n  nature=")?;
     out.text(nature.as_bytes())?;
@@ -117,8 +112,16 @@ fn times(out: &mut Record, fields: &Fields) -> Result<(), AllocError> {
 }
 
 fn services(out: &mut Record, fields: &Fields) -> Result<(), AllocError> {
-    field(out, b"\n  details_source=", u64::from(fields.details_source.0))?;
-    field(out, b"\n  details_channel=", u64::from(fields.details_channel.major))?;
+    field(
+        out,
+        b"\n  details_source=",
+        u64::from(fields.details_source.0),
+    )?;
+    field(
+        out,
+        b"\n  details_channel=",
+        u64::from(fields.details_channel.major),
+    )?;
     field(out, b"-", u64::from(fields.details_channel.minor))?;
     field(out, b"\n  audio_source=", u64::from(fields.audio_source.0))
 }

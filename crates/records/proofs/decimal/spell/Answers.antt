@@ -27,9 +27,13 @@ loop-left-again c =
     let at = c .loop-left .at in
     let inv = c .loop-left .inv in
     let some : 1 ≤ at = omega (arith, inv .1, decimal-some left (inv .3)) in
-    let ten : 10 ≤ left = omega arith in
-    (ap (λ ds. decimal (left / 10) ++ ds) (before s at (48 + left % 10) some (omega (arith, inv .2, inv .4))) ∙ moved left (drop at s) ten (inv .3) ∙ inv .0,
-     omega (arith, inv .1, shorter left ten (inv .3)), omega (arith, inv .2), omega (arith, inv .3), length-set s (at - 1) (48 + left % 10) ∙ inv .4)
+    let ten : 10 ≤ left = omega arith in (
+      ap (λ ds. decimal (left / 10) ++ ds) (before s at (48 + left % 10) some (omega (arith, inv .2, inv .4))) ∙ moved left (drop at s) ten (inv .3) ∙ inv .0,
+      omega (arith, inv .1, shorter left ten (inv .3)),
+      omega (arith, inv .2),
+      omega (arith, inv .3),
+      length-set s (at - 1) (48 + left % 10) ∙ inv .4,
+    )
 
 pub sub-at-2 : need.sub-at-2
 sub-at-2 c = omega (arith, c .loop-left .inv .1, decimal-some (c .loop-left .left) (c .loop-left .inv .3))
@@ -43,5 +47,5 @@ returns c =
     let some : 1 ≤ at = omega (arith, inv .1, decimal-some left (inv .3)) in
     record {
       value = before s at (48 + left) some (omega (arith, inv .2, inv .4)) ∙ ap (λ ds. ds ++ drop at s) (sym (decimal-digit left (omega arith))) ∙ inv .0;
-      bound = omega (arith, inv .2)
+      bound = omega (arith, inv .2);
     }

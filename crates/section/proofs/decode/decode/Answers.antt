@@ -27,5 +27,5 @@ returns c =
       priority = record { 0 = (c .word-at-priority .ensures ∙ w 7) i % 16 };
       «details_source» = record { 0 = (c .word-at-details-source .ensures ∙ w 9) i };
       «details_channel» = record { major = (c .word-at-major .ensures ∙ w 11) i % 1024; minor = (c .word-at-minor .ensures ∙ w 13) i % 1024 };
-      «audio_source» = record { 0 = (c .word-at-audio-source .ensures ∙ w 15) i }
+      «audio_source» = record { 0 = (c .word-at-audio-source .ensures ∙ w 15) i };
     }

@@ -18,5 +18,5 @@ returns c =
       first = refl;
       last = refl;
       version = refl;
-      body = take-rest (c .args .bytes .now) 9
+      body = take-rest (c .args .bytes .now) 9;
     }

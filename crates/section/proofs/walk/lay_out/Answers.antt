@@ -25,5 +25,5 @@ returns c =
       «location_count» = k i;
       locations = span (l i + 1) (e i);
       exceptions = span (e i + 1) (d i);
-      descriptors = span (d i + 2) (d i + 2 + m i)
+      descriptors = span (d i + 2) (d i + 2 + m i);
     }
