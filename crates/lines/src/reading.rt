@@ -1,7 +1,9 @@
 // Lines from a reader.
 ghost use mathlib.Core.Bool.{cond};
 ghost use mathlib.Core.Path.{_≡_};
+ghost use Rattle.std.specs.Orderings.{Decides};
 ghost use Rattle.std.specs.Results.{Cases};
+ghost use Rattle.std.specs.declared.io.ErrorKind.the-variants.{Interrupted};
 ghost use Rattle.lines.specs.Held.{GoesOn, HoldsLine, HoldsNext};
 use crate::buffer::LineBuffer;
 use std::io;
@@ -24,6 +26,13 @@ fn turn_after(ended: bool) -> Turn
     if ended { Turn::Fed } else { Turn::Within }
 }
 
+// A signal came, and the read is to be tried again.
+fn is_interruption(kind: io::ErrorKind) -> bool
+    ensures value { λ r. ⌜ Decides r (kind ≡ Interrupted) ⌝ }
+{
+    matches!(kind, io::ErrorKind::Interrupted)
+}
+
 // Takes what the reader holds of the line.
 fn take_held<B: BufRead>(input: &mut B, line: &mut LineBuffer) -> io::Result<Turn>
     ensures after { λ _. ⌜ GoesOn (now (line .entry)) (now (line .exit)) ⌝ }
@@ -31,8 +40,7 @@ fn take_held<B: BufRead>(input: &mut B, line: &mut LineBuffer) -> io::Result<Tur
 {
     let held = match input.fill_buf() {
         Ok(held) => held,
-        // a signal came: the read is tried again
-        Err(e) if e.kind() == io::ErrorKind::Interrupted => return Ok(Turn::Within),
+        Err(e) if is_interruption(e.kind()) => return Ok(Turn::Within),
         Err(e) => return Err(e),
     };
     if held.is_empty() {
