@@ -1,5 +1,6 @@
-// Tries published check values and the examples of the public standard, and counts what is wrong.
+// Tries published check values, the examples of the public standard and the edges of entries, and counts what is wrong.
 mod examples;
+mod naming;
 mod tally;
 
 use section::Section;
@@ -118,6 +119,7 @@ fn run(rt: &LibcRuntime) -> io::Result<()> {
     check_values(&mut tally)?;
     warnings(&mut tally)?;
     cut_short(&mut tally)?;
+    naming::all(&mut tally)?;
     tally.end()
 }
 

@@ -5,3 +5,4 @@ pub mod Refusals
 pub mod Rules
 pub mod Parts
 pub mod Texts
+pub mod Naming

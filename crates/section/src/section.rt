@@ -26,6 +26,7 @@ impl<'a> Section<'a> {
     }
 }
 
+mod entries;
 mod numbers;
 mod questions;
 mod texts;
