@@ -1,0 +1,4 @@
+pub mod Firsts
+pub mod Decided
+pub mod Said
+pub mod Clear
