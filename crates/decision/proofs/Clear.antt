@@ -66,6 +66,7 @@ inside-for ss a home h d None = by (a .details) d
     pick : (b : Bool) (k : ℕ) → k < length ss → cond b k home < length ss
     pick true k l = l
     pick false k l = h
+
     by : (o : Option ℕ) → Listed ss o → shownBy (a .priority .0) o home < length ss
     by None l = h
     by (Some k) l = pick (between 12 15 (a .priority .0)) k l
@@ -108,10 +109,12 @@ or-apart ss (Some k) y r h g e = subst (Apart ss) (sym e) h
 pub presents : {U : Type 0} (m after : Meaning) (o : Option Alert) (home : ℕ) (p : Picture) (r : Result U SetRefusal) → Pictures p (pictured o (m .services) home) → Drives m p r after → Presents m o home r after
 presents m after o home p (Ok u) w d =
     d .1 ∙ (λ i. record { services = sym (says o (m .services) home .services) i; shown = w .service i; sound = w .sound i; caption = w .caption i })
-presents m after o home p (Err e) w d =
-    (d .1, λ h f. let none : obstacle (m .services) p ≡ None = clear (m .services) p (pictured o (m .services) home) w (possible (m .services) o home h f) in
+presents m after o home p (Err e) w d = (
+  d .1,
+  λ h f. let none : obstacle (m .services) p ≡ None = clear (m .services) p (pictured o (m .services) home) w (possible (m .services) o home h f) in
       let both : _≡_ {A = Option SetRefusal} None (Some e) = sym none ∙ d .0 in
-      let z : _≡_ {A = ℕ} 0 1 = cc in omega arith)
+      let z : _≡_ {A = ℕ} 0 1 = cc in omega arith,
+)
 
 audio-apart : (path : Path) (f : Fields) (ss : List Service) → Apart ss (audioOf path f ss)
 audio-apart InBand f ss = tt
@@ -123,5 +126,5 @@ unfolding detailsOf soundOf
 keeps-fits s ss path clock a k =
     record {
       details = listed-first (bears (detailsName path (fieldsOf s))) ss (a .details) (k .details);
-      sound = or-apart ss (audioOf path (fieldsOf s) ss) _ (a .sound) (audio-apart path (fieldsOf s) ss) (if-apart ss (detailsOf path (fieldsOf s) ss) _ refl) (k .sound)
+      sound = or-apart ss (audioOf path (fieldsOf s) ss) _ (a .sound) (audio-apart path (fieldsOf s) ss) (if-apart ss (detailsOf path (fieldsOf s) ss) _ refl) (k .sound);
     }

@@ -36,7 +36,7 @@ quiet o ss home none =
       sound-borrowed = λ a k e b q. absurd (none a e b);
       own-sound = λ _. refl;
       text-captioned = λ a e b. absurd (none a e b);
-      no-caption = λ _. refl
+      no-caption = λ _. refl;
     }
 
 -- the service under an alert that applies
@@ -53,9 +53,11 @@ else-shown a ss home b none = by-sound (a .sound) refl
     by-level k true q d e =
         let p = and-parts (leb 12 (a .priority .0)) (leb (a .priority .0) 15) e in
         absurd (none k (record { applies-here = b; high = leb-true 12 (a .priority .0) (p .0); highest = leb-true (a .priority .0) 15 (p .1); silent = q; detail = d }))
+
     by-details : (d : Option ℕ) → a .sound ≡ None → a .details ≡ d → shownBy (a .priority .0) d home ≡ home
     by-details None q e = refl
     by-details (Some k) q e = by-level k (between 12 15 (a .priority .0)) q e refl
+
     by-sound : (o : Option ℕ) → a .sound ≡ o → serviceFor a home o ≡ home
     by-sound (Some k) e = refl
     by-sound None e = by-details (a .details) e refl
@@ -74,7 +76,7 @@ loud a ss home b =
       sound-borrowed = λ c k e b′ q. ap soundFrom (ap (λ (x : Alert). x .sound) (same a c e) ∙ q);
       own-sound = λ none. own-from (a .sound) (λ k q. none a k refl b q);
       text-captioned = λ c e b′. ap (λ (x : Alert). said (x .text)) (same a c e);
-      no-caption = λ none. absurd (none a refl b)
+      no-caption = λ none. absurd (none a refl b);
     }
 
 pub says : (o : Option Alert) (ss : List Service) (home : ℕ) → Sentences o ss home (pictured o ss home)
@@ -100,7 +102,7 @@ module _ (a : Alert) (ss : List Service) (home : ℕ) (m : Meaning) (w : Sentenc
       w .details-shown a k refl (record { applies-here = b; high = leb-true 12 (a .priority .0) (p .0); highest = leb-true (a .priority .0) 15 (p .1); silent = e; detail = d })
   by-level b e k false d l =
       w .viewers-shown (λ c j p t. both-ways (between 12 15 (a .priority .0)) l
-        (ap (λ (x : Alert). between 12 15 (x .priority .0)) (same a c p) ∙ and-from _ _ (le-leb 12 (c .priority .0) (t .high)) (le-leb (c .priority .0) 15 (t .highest))))
+      (ap (λ (x : Alert). between 12 15 (x .priority .0)) (same a c p) ∙ and-from _ _ (le-leb 12 (c .priority .0) (t .high)) (le-leb (c .priority .0) 15 (t .highest))))
 
   by-details : appliesTo a ss home ≡ true → a .sound ≡ None → (d : Option ℕ) → a .details ≡ d → m .shown ≡ shownBy (a .priority .0) d home
   by-details b e None d = w .viewers-shown (λ c j p t. nothing j (sym d ∙ ap (λ (x : Alert). x .details) (same a c p) ∙ t .detail))

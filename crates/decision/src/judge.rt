@@ -16,7 +16,11 @@ impl Excepted {
     pub fn holds(&self, number: usize) -> bool
         ensures { λ r. ⌜ r ≡ getD (now (self .entry) .marks) number false ⌝ }
     {
-        if number < 256 { self.marks[number] } else { false }
+        if number < 256 {
+            self.marks[number]
+        } else {
+            false
+        }
     }
 }
 
@@ -57,7 +61,11 @@ fn does_apply(excepted: bool, priority: u8, service: Option<Service>) -> bool
 pub fn applies_to<S: Set>(set: &S, alert: &Alert, home: usize) -> bool
     ensures { λ r. ⌜ r ≡ appliesTo (now (alert .entry)) (meaning (now (set .entry)) .services) home ⌝ }
 {
-    does_apply(alert.excepted.holds(home), alert.priority.0, set.service(home))
+    does_apply(
+        alert.excepted.holds(home),
+        alert.priority.0,
+        set.service(home),
+    )
 }
 
 // The service to show under an alert that applies.

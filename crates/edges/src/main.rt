@@ -31,7 +31,7 @@ fn check_values<W: Write + Drop>(tally: &mut Tally<W>) -> io::Result<()> {
     tally.number(
         "check word of a whole section",
         0,
-        checkword::check_word(&examples::HWW),
+        checkword::check_word(examples::HWW),
     )
 }
 
@@ -69,7 +69,7 @@ fn warnings<W: Write + Drop>(tally: &mut Tally<W>) -> io::Result<()> {
         tally,
         Example {
             name: "HWW",
-            section: &examples::HWW,
+            section: examples::HWW,
             event_id: 15,
             sequence: 10,
             seconds: 60,
@@ -80,7 +80,7 @@ fn warnings<W: Write + Drop>(tally: &mut Tally<W>) -> io::Result<()> {
         tally,
         Example {
             name: "EAN",
-            section: &examples::EAN,
+            section: examples::EAN,
             event_id: 16,
             sequence: 13,
             seconds: 0,
@@ -94,7 +94,7 @@ fn cut_short<W: Write + Drop>(tally: &mut Tally<W>) -> io::Result<()> {
         tally,
         Example {
             name: "CAE",
-            section: &examples::CAE,
+            section: examples::CAE,
             event_id: 18,
             sequence: 12,
             seconds: 110,
@@ -105,7 +105,7 @@ fn cut_short<W: Write + Drop>(tally: &mut Tally<W>) -> io::Result<()> {
         tally,
         Example {
             name: "ABT",
-            section: &examples::ABT,
+            section: examples::ABT,
             event_id: 97,
             sequence: 7,
             seconds: 3,

@@ -28,6 +28,6 @@ returns g c =
       details = d;
       sound = c .borrowable-sound .ensures ∙ ap (λ x. soundBy path x ss (c .details-service-details .result)) f ∙ ap (soundBy path (fieldsOf s) ss) d;
       words = c .in-Ok-text .ensures tt .1;
-      marks = c .in-Ok-excepted-by .ensures tt
+      marks = c .in-Ok-excepted-by .ensures tt;
     } in
     record { cases = (n, kept); fits = keeps-fits s ss path (c .args .clock) _ kept }
