@@ -1,7 +1,7 @@
 // What the studio bus does.
 ghost use mathlib.Core.Path.{_≡_};
-ghost use Rattle.sets.specs.Bus.{busMeaning, newBus, input};
 ghost use Prim.Native.Nat.{_<_};
+ghost use Rattle.sets.specs.Bus.{busMeaning, newBus, input};
 ghost use Rattle.sets.specs.Laws.{bus-lawful};
 use crate::bus::StudioBus;
 use crate::caption::Caption;

@@ -34,6 +34,7 @@ impl<'a> ChannelMap<'a> {
         check_table(table, start)
     }
 
+    // A map over a table that it fits, with its own sound and no caption.
     fn over(table: &'a [Service], start: usize) -> ChannelMap<'a>
         requires { ⌜ length (now table) ≤ 256 ⌝ ∗ ⌜ start < length (now table) ⌝ }
         ensures value { λ r. ⌜ mapMeaning r ≡ freshly (now (table .entry)) start ⌝ }
