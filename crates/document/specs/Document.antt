@@ -22,6 +22,7 @@ fault breaks n repeats gap =
 abbrev pub gap : List Fragment → Bool
 gap fs = missing (λ k. tally k fs) (length fs)
 
+-- what refuses these descriptors, if anything does
 abbrev pub faultOf : List Descriptor → Option DocumentRefusal
 faultOf ds = fault (anyBreaks ds) (length (fragmentsOf ds)) (repeats (fragmentsOf ds)) (gap (fragmentsOf ds))
 
@@ -33,6 +34,7 @@ abbrev pub orFault : Option DocumentRefusal → List ℕ → Result (List ℕ) D
 orFault None doc = Ok doc
 orFault (Some e) doc = Err e
 
+-- the document that the descriptor bytes carry, or the first refusal
 unfoldable pub documentOf : List ℕ → Result (List ℕ) DocumentRefusal
 documentOf area =
     cond (ended (walked area)) (orFault (faultOf (walked area .whole)) (bound (fragmentsOf (walked area .whole)))) (Err Unended)

@@ -12,6 +12,7 @@ pub record Fragment : Type 0 where
   pub number : ℕ
   pub bytes : List ℕ
 
+-- the descriptors that carry fragments
 abbrev pub metadata : Descriptor → Bool
 metadata d = eqb (d .tag) 3
 
@@ -26,7 +27,7 @@ anyBreaks (d ∷ ds) = (metadata d && breaks (d .body)) || anyBreaks ds
 abbrev pub fragmentOf : List ℕ → Fragment
 fragmentOf body = record { number = getD body 0 0; bytes = drop 2 body }
 
--- those of the metadata descriptors that keep the rule
+-- the fragments of those metadata descriptors that keep the rule
 abbrev pub fragmentsOf : List Descriptor → List Fragment
 fragmentsOf [] = []
 fragmentsOf (d ∷ ds) = cond (metadata d && not (breaks (d .body))) (fragmentOf (d .body) ∷ fragmentsOf ds) (fragmentsOf ds)
