@@ -1,4 +1,6 @@
 // The calls of a receiver and their replies, as plain values.
+#![tactic(auto)]
+
 mod answer;
 mod call;
 mod refusal;

@@ -1,4 +1,6 @@
 // The check word of a section.
+#![tactic(auto)]
+
 mod register;
 mod tables;
 

@@ -1,4 +1,6 @@
 // What an alert asks of a set.
+#![tactic(auto)]
+
 mod alert;
 mod decide;
 mod drive;

@@ -1,4 +1,6 @@
 // Metadata documents: gathered from a section's descriptors, filled with an alert's words, and handed out.
+#![tactic(auto)]
+
 mod binding;
 mod delivery;
 mod escape;

@@ -1,4 +1,6 @@
 // Tries published check values, the examples of the public standard and the edges of entries, and counts what is wrong.
+#![tactic(auto)]
+
 mod examples;
 mod naming;
 mod tally;

@@ -1,4 +1,6 @@
 // The library for C: numbers pass as themselves, bytes as a pointer and a length.
+#![tactic(auto)]
+
 ghost use Rattle.std.specs.Prelude.{◌≡◌};
 ghost use Rattle.checkword.specs.Register.{check_register};
 ghost use Rattle.section.specs.Rules.{refusal};

@@ -1,4 +1,6 @@
 // The entries of a section: the places that it names and the services that it excepts.
+#![tactic(auto)]
+
 mod asking;
 mod bytes;
 mod entry;

@@ -1,4 +1,6 @@
 // Runs of calls: the law that every run keeps, and what a receiver keeps of one.
+#![tactic(auto)]
+
 mod law;
 mod state;
 

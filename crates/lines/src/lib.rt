@@ -1,4 +1,6 @@
 // Lines of any length and content, hexadecimal and decimal numbers.
+#![tactic(auto)]
+
 mod buffer;
 mod decimal;
 mod ends;

@@ -1,4 +1,6 @@
 // The receiver of alerts: it keeps the alert in force over whole runs of calls and drives any set.
+#![tactic(auto)]
+
 mod judge;
 mod moving;
 mod receiver;

@@ -1,4 +1,6 @@
 // Rehearses what a receiver would do: reads a script of calls, and prints what comes of each.
+#![tactic(auto)]
+
 mod documents;
 mod input;
 mod output;

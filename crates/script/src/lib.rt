@@ -1,4 +1,6 @@
 // The lines of a script: what each asks for, and what a receiver begins with by those of the set-up.
+#![tactic(auto)]
+
 mod asked;
 mod beginning;
 mod marks;

@@ -1,4 +1,6 @@
 // Sections of cable emergency alerts: their rules, fields and parts.
+#![tactic(auto)]
+
 mod bytes;
 mod check;
 mod decode;

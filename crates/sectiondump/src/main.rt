@@ -1,4 +1,6 @@
 // Prints what is in the sections that are given as hexadecimal lines on standard input.
+#![tactic(auto)]
+
 mod input;
 mod print;
 

@@ -1,4 +1,6 @@
 // Sets: what every set means and does, the studio bus and the channel map.
+#![tactic(auto)]
+
 mod bus;
 mod caption;
 mod map;

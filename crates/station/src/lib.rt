@@ -1,4 +1,6 @@
 // What a station knows: where it stands, its services and how alerts reach it.
+#![tactic(auto)]
+
 mod place;
 mod refusal;
 mod service;

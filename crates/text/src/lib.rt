@@ -1,4 +1,6 @@
 // Text fields: the multiple string structure and what it says in English.
+#![tactic(auto)]
+
 mod characters;
 mod line;
 mod reading;
