@@ -3,5 +3,4 @@ pub mod Digits
 pub mod Feeds
 pub mod Holding
 pub mod Sizing
-pub mod Stripping
 pub mod Tailing

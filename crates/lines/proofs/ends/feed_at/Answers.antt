@@ -12,8 +12,8 @@ pub loop-at-preserved : goal.loop-at-preserved
 loop-at-preserved c =
     (omega arith, omega (arith, feed_past_chunk c.args.bytes.now c.loop-at.at (omega arith) (omega arith)))
 
-pub overflow-add-result-2 : goal.overflow-add-result-2
-overflow-add-result-2 c =
+pub overflow_add-result-2 : goal.overflow_add-result-2
+overflow_add-result-2 c =
     record { fits = omega (arith, feed_in_rest c.args.bytes.now c.loop-at.at, feed_within c.args.bytes.now) }
 
 pub returns : goal.returns

@@ -6,7 +6,7 @@ use Rattle.lines.proofs.hex.all_digits.Goals as goal
 
 pub loop-byte-preserved : goal.loop-byte-preserved
 loop-byte-preserved c =
-    seen_more c.args.text.now c.loop-byte.byte-index c.loop-byte.seen c.looked-up-seen.result (omega arith) c.loop-byte.invariant c.looked-up-seen.ensures.value
+    seen_more c.args.text.now c.loop-byte.byte-index c.loop-byte.seen c.looked_up-seen.result (omega arith) c.loop-byte.invariant c.looked_up-seen.ensures.value
 
 pub returns : goal.returns
 returns c =

@@ -5,17 +5,17 @@ use Rattle.lines.proofs.reading.next_line.Goals.{else-loop-test, then-loop-test+
 
 pub returns-in-Ok-Fed : goal.returns-in-Ok-Fed
 returns-in-Ok-Fed g c =
-    let on = reads_on c.clear.new.self.most c.loop.line c.take-held.new.line c.take-held.ensures.after c.take-held.ensures.same c.loop.invariant in
-    record { cases = next_there c.take-held.new.line on.0; same = on.1 ∙ c.clear.ensures.same }
+    let on = reads_on c.clear.new.self.most c.loop.line c.take_held.new.line c.take_held.ensures.after c.take_held.ensures.same c.loop.invariant in
+    record { cases = next_there c.take_held.new.line on.0; same = on.1 ∙ c.clear.ensures.same }
 
 pub returns-in-Err : goal.returns-in-Err
 returns-in-Err g c =
-    let on = reads_on c.clear.new.self.most c.loop.line c.take-held.new.line c.take-held.ensures.after c.take-held.ensures.same c.loop.invariant in
+    let on = reads_on c.clear.new.self.most c.loop.line c.take_held.new.line c.take_held.ensures.after c.take_held.ensures.same c.loop.invariant in
     record { cases = on.0; same = on.1 ∙ c.clear.ensures.same }
 
 pub loop-preserved : goal.loop-preserved
 loop-preserved g c =
-    reads_on c.clear.new.self.most c.loop.line c.take-held.new.line c.take-held.ensures.after c.take-held.ensures.same c.loop.invariant
+    reads_on c.clear.new.self.most c.loop.line c.take_held.new.line c.take_held.ensures.after c.take_held.ensures.same c.loop.invariant
 
 pub returns : goal.returns
 returns g c =
@@ -25,9 +25,9 @@ returns g c =
       | else-loop-test w ↦ subst (Reads most) (sym w.line-is) c.loop.invariant
       | then-loop-test+in-Ok-End w ↦
           subst (Reads most) (sym w.line-is)
-          (reads_on most c.loop.line w.take-held.new.line w.take-held.ensures.after w.take-held.ensures.same c.loop.invariant)
+          (reads_on most c.loop.line w.take_held.new.line w.take_held.ensures.after w.take_held.ensures.same c.loop.invariant)
     ] in
     record {
-      cases = next_unless_empty c.loop-test.line c.is-empty.result c.is-empty.ensures.held left.0;
+      cases = next_unless_empty c.loop-test.line c.is_empty.result c.is_empty.ensures.held left.0;
       same = left.1 ∙ c.clear.ensures.same;
     }

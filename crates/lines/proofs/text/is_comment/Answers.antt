@@ -9,6 +9,6 @@ returns-in-None c =
     let most = c.args.line.now.most in
     record {
       value = λ text holds some.
-          c.says-nothing-in-None.ensures.value ∙ ap is_comment (c.bytes.ensures.held text holds)
+          c.says_nothing-in-None.ensures.value ∙ ap is_comment (c.bytes.ensures.held text holds)
           ∙ comment_in_first text most (leb-false _ most (c.in-None.ensures.cases text holds)) some;
     }

@@ -11,8 +11,8 @@ loop-left-init c =
     let all : length c.args.digits.now ≡ 20 = search rules in
     (ap (λ ds. decimal n ++ ds) (drop_all 20 c.args.digits.now (omega arith)) ∙ append-nil (decimal n), length-decimal-le 20 n (omega arith) (omega arith) fits, omega arith, fits, all)
 
-pub overflow-sub-at : goal.overflow-sub-at
-overflow-sub-at c = omega (arith, c.loop-left.invariant.1, decimal_nonempty c.loop-left.left c.loop-left.invariant.3)
+pub overflow_sub-at : goal.overflow_sub-at
+overflow_sub-at c = omega (arith, c.loop-left.invariant.1, decimal_nonempty c.loop-left.left c.loop-left.invariant.3)
 
 pub loop-left-preserved : goal.loop-left-preserved
 loop-left-preserved c =
@@ -29,8 +29,8 @@ loop-left-preserved c =
       length-set s (at - 1) (48 + left % 10) ∙ inv.4,
     )
 
-pub overflow-sub-at-2 : goal.overflow-sub-at-2
-overflow-sub-at-2 c = omega (arith, c.loop-left.invariant.1, decimal_nonempty c.loop-left.left c.loop-left.invariant.3)
+pub overflow_sub-at-2 : goal.overflow_sub-at-2
+overflow_sub-at-2 c = omega (arith, c.loop-left.invariant.1, decimal_nonempty c.loop-left.left c.loop-left.invariant.3)
 
 pub returns : goal.returns
 returns c =

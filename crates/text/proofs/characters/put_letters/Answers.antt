@@ -6,14 +6,14 @@ use Rattle.text.specs.Filling.{filled, all_fit}
 use Rattle.text.proofs.Fills.{next_letter, no_letter, went, stopped}
 use Rattle.text.proofs.characters.put_letters.Goals as goal
 
-pub returns-then-not-put-character : goal.returns-then-not-put-character
-returns-then-not-put-character c =
+pub returns-then-not-put_character : goal.returns-then-not-put_character
+returns-then-not-put_character c =
     let spell = character c.args.mode in
     let letters = c.args.letters.now in
     let i = c.loop-byte.byte-index in
     let words = said c.loop-byte.text in
     let next = next_letter spell letters i (omega arith) in
-    let s = stopped words (said c.put-character.new.text) (spell (get_or letters i 0)) c.put-character.result c.put-character.ensures.value c.put-character.ensures.after (map spell (drop (i + 1) letters)) c.if-not-put-character.true in
+    let s = stopped words (said c.put_character.new.text) (spell (get_or letters i 0)) c.put_character.result c.put_character.ensures.value c.put_character.ensures.after (map spell (drop (i + 1) letters)) c.if-not-put_character.true in
     record {
       value = s.0 ∙ (ap (all_fit words) (sym next) ∙ c.loop-byte.invariant.0);
       after = s.1 ∙ (ap (filled words) (sym next) ∙ c.loop-byte.invariant.1);
@@ -26,7 +26,7 @@ loop-byte-preserved c =
     let i = c.loop-byte.byte-index in
     let words = said c.loop-byte.text in
     let next = next_letter spell letters i (omega arith) in
-    let s = went words (said c.put-character.new.text) (spell (get_or letters i 0)) c.put-character.result c.put-character.ensures.value c.put-character.ensures.after (map spell (drop (i + 1) letters)) c.if-not-put-character.false in
+    let s = went words (said c.put_character.new.text) (spell (get_or letters i 0)) c.put_character.result c.put_character.ensures.value c.put_character.ensures.after (map spell (drop (i + 1) letters)) c.if-not-put_character.false in
     (s.0 ∙ (ap (all_fit words) (sym next) ∙ c.loop-byte.invariant.0), s.1 ∙ (ap (filled words) (sym next) ∙ c.loop-byte.invariant.1))
 
 pub returns : goal.returns

@@ -4,12 +4,12 @@ use Rattle.text.proofs.reading.text_of.Goals as goal
 
 pub returns-in-Some : goal.returns-in-Some
 returns-in-Some c = record {
-  value = c.text-of-string.ensures.value
-      ∙ text_found c.args.field.now c.after.result.now c.byte-at.result c.byte-at.ensures.value c.after.ensures.value c.in-Some.ensures.value;
+  value = c.text_of_string.ensures.value
+      ∙ text_found c.args.field.now c.after.result.now c.byte_at.result c.byte_at.ensures.value c.after.ensures.value c.in-Some.ensures.value;
 }
 
 pub returns-in-None : goal.returns-in-None
 returns-in-None c = record {
   value = c.empty.ensures.value
-      ∙ text_found c.args.field.now c.after.result.now c.byte-at.result c.byte-at.ensures.value c.after.ensures.value c.in-None.ensures.value;
+      ∙ text_found c.args.field.now c.after.result.now c.byte_at.result c.byte_at.ensures.value c.after.ensures.value c.in-None.ensures.value;
 }

@@ -3,10 +3,10 @@ use Rattle.text.specs.Structure.{and_then, past_segments}
 use Rattle.text.proofs.Walks.{turned}
 use Rattle.text.proofs.walk.past_segments.Goals as goal
 
-pub returns-in-default : goal.returns-in-default
-returns-in-default c = record {
+pub returns-in_default : goal.returns-in_default
+returns-in_default c = record {
   value = turned past_segments c.args.count c.loop.counter c.loop.rest.now (omega arith)
-      (ap (λ o. and_then o (past_segments (c.args.count - (c.loop.counter + 1)))) c.in-default.ensures.value) c.loop.invariant;
+      (ap (λ o. and_then o (past_segments (c.args.count - (c.loop.counter + 1)))) c.in_default.ensures.value) c.loop.invariant;
 }
 
 pub loop-preserved : goal.loop-preserved

@@ -6,4 +6,4 @@ use Rattle.records.proofs.record.Record.number.Goals as goal
 pub returns : goal.returns
 returns c =
     let d = c.spell-start.new.digits in
-    adds _ _ _ c.extend-from-slice.result _ c.extend-from-slice.ensures.items (between_to_end d c.spell-start.result 20 (omega (arith, c.spell-start.array_long)) ∙ c.spell-start.ensures.value)
+    adds _ _ _ c.extend_from_slice.result _ c.extend_from_slice.ensures.items (between_to_end d c.spell-start.result 20 (omega (arith, c.spell-start.array_long)) ∙ c.spell-start.ensures.value)

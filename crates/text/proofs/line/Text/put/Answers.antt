@@ -12,6 +12,6 @@ returns c =
     let long : length (take t.len t.bytes) ≡ t.len = length-take-le t.len t.bytes (omega arith) in
     record {
       value = sym (le-leb _ _ (omega arith));
-      after = take-put_mid t.len (t.len + length c.args.part.now - t.len) t.bytes c.copy-from-slice.new.self (t.len + length c.args.part.now) (ap (λ n. t.len + n) (sym (ap length c.copy-from-slice.ensures.after))) (omega arith)
-          ∙ ap (λ w. take t.len t.bytes ++ w) c.copy-from-slice.ensures.after;
+      after = take-put_mid t.len (t.len + length c.args.part.now - t.len) t.bytes c.copy_from_slice.new.self (t.len + length c.args.part.now) (ap (λ n. t.len + n) (sym (ap length c.copy_from_slice.ensures.after))) (omega arith)
+          ∙ ap (λ w. take t.len t.bytes ++ w) c.copy_from_slice.ensures.after;
     }
