@@ -1,3 +1,4 @@
 pub mod Finding
 pub mod Locations
 pub mod Exceptions
+pub mod Widths

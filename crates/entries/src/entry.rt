@@ -23,7 +23,7 @@ pub trait Entry {
 
 // The number of an entry that names the thing, counted from 0. Bytes past the last whole entry are no entry.
 pub fn search<E: Entry>(entries: &[u8], thing: &E::Thing) -> Option<usize>
-    ensures cases { Finds width named entries.now thing.now result }
+    ensures cases { Finds E.width E.named entries.now thing.now result }
 {
     let size = E::size();
     let mut k = 0;

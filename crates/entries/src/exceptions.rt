@@ -1,7 +1,7 @@
 // Exception entries.
 ghost use Rattle.std.specs.Prelude.{◌≡◌};
 ghost use Rattle.entries.specs.Exceptions.{flagged, major_of, minor_of, source_of, exception_of, names_channel, names_source, names_tuned};
-ghost use Rattle.std.proofs.Common.{rules};
+ghost use Rattle.entries.specs.Widths.{five_bytes};
 
 use super::bytes::{byte_at, ten_bits};
 use super::entry::Entry;
@@ -77,7 +77,7 @@ impl Entry for Exception {
 
     ghost named = { names_tuned };
 
-    ghost some = { Prim.search rules };
+    ghost some = { five_bytes };
 
     fn size() -> usize {
         5

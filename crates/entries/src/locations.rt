@@ -1,7 +1,7 @@
 // Location entries.
 ghost use Rattle.std.specs.Prelude.{◌≡◌};
 ghost use Rattle.entries.specs.Locations.{location_of, names_place};
-ghost use Rattle.std.proofs.Common.{rules};
+ghost use Rattle.entries.specs.Widths.{three_bytes};
 
 use super::bytes::{byte_at, ten_bits};
 use super::entry::Entry;
@@ -41,7 +41,7 @@ impl Entry for Location {
 
     ghost named = { names_place };
 
-    ghost some = { Prim.search rules };
+    ghost some = { three_bytes };
 
     fn size() -> usize {
         3

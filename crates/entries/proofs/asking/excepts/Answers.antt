@@ -4,4 +4,4 @@ use Rattle.entries.proofs.asking.excepts.Goals as goal
 
 pub returns : goal.returns
 returns c =
-    record { cases = tells 5 names_tuned c.args.entries.now c.args.tuned.now _ _ c.is-some.ensures c.search.ensures.cases }
+    record { cases = tells 5 names_tuned c.args.entries.now c.args.tuned.now _ _ c.is_some.ensures c.search.ensures.cases }

@@ -24,8 +24,8 @@ last j k w rest n e h g =
     let more : (j + 1) * w < (k + 1) * w = omega (arith, next k w) in
     omega (arith, lt_of_mul-lt-mul_right w {m = j + 1} {n = k + 1} more)
 
-pub overflow-add-k : goal.overflow-add-k
-overflow-add-k g c = record { fits = omega (arith, le-mul_of_pos_right c.loop-rest.k g.met.E.Entry.some, g.met.E.Entry.some) }
+pub overflow_add-k : goal.overflow_add-k
+overflow_add-k g c = record { fits = omega (arith, le-mul_of_pos_right c.loop-rest.k g.met.E.Entry.some, g.met.E.Entry.some) }
 
 pub loop-rest-preserved : goal.loop-rest-preserved
 loop-rest-preserved g c =
@@ -33,8 +33,8 @@ loop-rest-preserved g c =
     let k = c.loop-rest.k in
     let s = c.args.entries.now in
     let size = c.size-size.ensures.value in
-    let parts = c.split-at.ensures in
-    let front : c.split-at.result.0.now ≡ entry_at e.width s k = first k e.width _ s _ _ size c.loop-rest.invariant.0 parts.front in (
+    let parts = c.split_at.ensures in
+    let front : c.split_at.result.0.now ≡ entry_at e.width s k = first k e.width _ s _ _ size c.loop-rest.invariant.0 parts.front in (
       past k e.width _ s _ _ size c.loop-rest.invariant.0 parts.back,
       omega (arith, next k e.width, c.loop-rest.invariant.1, parts.back_len),
       below_more _ _ c.loop-rest.invariant.2 (missed (λ l. e.named l c.args.thing.now) _ _ _ front c.names.ensures.value c.if-names.false),

@@ -3,5 +3,5 @@ use Rattle.sets.proofs.caption.Caption.write.Goals as goal
 
 pub returns : goal.returns
 returns c =
-    let same = c.copy-from-slice.ensures.after in
-    record { cases = (omega arith, take_at c.copy-from-slice.new.self _ (length c.args.bytes.now) (ap length same) ∙ same) }
+    let same = c.copy_from_slice.ensures.after in
+    record { cases = (omega arith, take_at c.copy_from_slice.new.self _ (length c.args.bytes.now) (ap length same) ∙ same) }
