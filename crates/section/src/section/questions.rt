@@ -31,7 +31,7 @@ impl<'a> Section<'a> {
     // The event code: that very part of the section, from byte 15 on.
     pub fn event_code(&self) -> Result<Part<'a>, SectionRefusal>
         ensures value { Hands self.now.bytes.now 15 (event_code_of self.now.bytes.now) result }
-        ensures same { IfOk result (λ p. p.bytes.ptr ≡ (self.now.bytes.ptr.0, 15 + self.now.bytes.ptr.1)) }
+        ensures same { IfOk result (λ p. p.bytes.ref_ptr ≡ (self.now.bytes.ref_ptr.0, 15 + self.now.bytes.ref_ptr.1)) }
     {
         match self.layout() {
             Ok(layout) => {

@@ -4,7 +4,7 @@ use Rattle.section.proofs.head.split_head.Goals as goal
 
 pub returns : goal.returns
 returns c =
-    let low = (c.type-inv.bytes 2).fits in
+    let low = (c.type_inv.bytes 2).fits in
     record {
       long = search rules;
       table = refl;

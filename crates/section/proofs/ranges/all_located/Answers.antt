@@ -9,20 +9,20 @@ next k i s h =
     let e : k - i ≡ suc (k - (i + 1)) = omega arith in
     ap (λ n. all_located n s) e
 
-pub returns-then-not-is-located : goal.returns-then-not-is-located
-returns-then-not-is-located c =
+pub returns-then-not-is_located : goal.returns-then-not-is_located
+returns-then-not-is_located c =
     let s = c.loop.rest.now in
     let k = c.args.count in
     let i = c.loop.counter in
-    ap (λ b. b && all_located (k - (i + 1)) (drop 3 s)) c.if-not-is-located.ensures ∙ sym (next k i s (omega arith)) ∙ c.loop.invariant
+    ap (λ b. b && all_located (k - (i + 1)) (drop 3 s)) c.if-not-is_located.ensures ∙ sym (next k i s (omega arith)) ∙ c.loop.invariant
 
 pub loop-preserved : goal.loop-preserved
 loop-preserved c =
     let s = c.loop.rest.now in
     let k = c.args.count in
     let i = c.loop.counter in
-    ap (all_located (k - (i + 1))) (c.part-of-rest.ensures ∙ take_rest s 3)
-    ∙ ap (λ b. b && all_located (k - (i + 1)) (drop 3 s)) c.if-not-is-located.ensures ∙ sym (next k i s (omega arith)) ∙ c.loop.invariant
+    ap (all_located (k - (i + 1))) (c.part_of-rest.ensures ∙ take_rest s 3)
+    ∙ ap (λ b. b && all_located (k - (i + 1)) (drop 3 s)) c.if-not-is_located.ensures ∙ sym (next k i s (omega arith)) ∙ c.loop.invariant
 
 pub returns : goal.returns
 returns c =

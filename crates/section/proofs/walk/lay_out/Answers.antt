@@ -6,14 +6,14 @@ pub returns : goal.returns
 unfolding nature_at times_at text_at locations_at exceptions_at descriptors_at check_at
 returns c =
     let s = c.args.bytes.now in
-    let n : c.after-counted-nature.result ≡ nature_at s = c.after-counted-nature.ensures in
-    let t : c.after-counted-times.result ≡ times_at s = c.after-counted-times.ensures ∙ ap (after 1 s) n in
-    let w : c.from.result ≡ word s (times_at s + 17) = c.from.ensures ∙ c.word-at.ensures ∙ ap (λ k. word s (k + 17)) t in
-    let l : c.after-counted-times.result + 19 + c.from.result ≡ locations_at s = λ i. t i + 19 + w i in
-    let e : c.after-counted-exceptions.result ≡ exceptions_at s = c.after-counted-exceptions.ensures ∙ ap (after 3 s) l in
-    let d : c.after-counted-descriptors.result ≡ descriptors_at s = c.after-counted-descriptors.ensures ∙ ap (after 5 s) e in
-    let m : c.from-2.result ≡ word s (descriptors_at s) % 1024 = c.from-2.ensures ∙ ap (λ k. k % 1024) (c.word-at-2.ensures ∙ ap (word s) d) in
-    let k : c.byte-at.result ≡ get_or s (locations_at s) 0 = c.byte-at.ensures ∙ ap (λ j. get_or s j 0) l in
+    let n : c.after_counted-nature.result ≡ nature_at s = c.after_counted-nature.ensures in
+    let t : c.after_counted-times.result ≡ times_at s = c.after_counted-times.ensures ∙ ap (after 1 s) n in
+    let w : c.from.result ≡ word s (times_at s + 17) = c.from.ensures ∙ c.word_at.ensures ∙ ap (λ k. word s (k + 17)) t in
+    let l : c.after_counted-times.result + 19 + c.from.result ≡ locations_at s = λ i. t i + 19 + w i in
+    let e : c.after_counted-exceptions.result ≡ exceptions_at s = c.after_counted-exceptions.ensures ∙ ap (after 3 s) l in
+    let d : c.after_counted-descriptors.result ≡ descriptors_at s = c.after_counted-descriptors.ensures ∙ ap (after 5 s) e in
+    let m : c.from-2.result ≡ word s (descriptors_at s) % 1024 = c.from-2.ensures ∙ ap (λ k. k % 1024) (c.word_at-2.ensures ∙ ap (word s) d) in
+    let k : c.byte_at.result ≡ get_or s (locations_at s) 0 = c.byte_at.ensures ∙ ap (λ j. get_or s j 0) l in
     λ i.
     record {
       event_code = span 15 (n i);

@@ -4,4 +4,4 @@ use Rattle.section.proofs.section.Section.alert_text.Goals as goal
 
 pub returns-in-Ok : goal.returns-in-Ok
 unfolding alert_of
-returns-in-Ok c = hands c.args.self.now.bytes.now c.in-Ok.layout (λ l. l.alert) _ _ c.in-Ok.ensures c.part-at.ensures.at c.part-at.ensures.value
+returns-in-Ok c = hands c.args.self.now.bytes.now c.in-Ok.layout (λ l. l.alert) _ _ c.in-Ok.ensures c.part_at.ensures.at c.part_at.ensures.value

@@ -13,14 +13,14 @@ inside s l h =
     let e : l.event_code.end ≡ nature_at s = ap (λ x. x.event_code.end) h.1 in
     (omega arith, omega arith)
 
-pub slice-bounds-result-count : goal.slice-bounds-result-count
-slice-bounds-result-count c = (inside c.args.self.now.bytes.now c.in-Ok.layout c.in-Ok.ensures).0
+pub slice_bounds-result-count : goal.slice_bounds-result-count
+slice_bounds-result-count c = (inside c.args.self.now.bytes.now c.in-Ok.layout c.in-Ok.ensures).0
 
-pub slice-bounds-result-start : goal.slice-bounds-result-start
-slice-bounds-result-start c = (inside c.args.self.now.bytes.now c.in-Ok.layout c.in-Ok.ensures).0
+pub slice_bounds-result-start : goal.slice_bounds-result-start
+slice_bounds-result-start c = (inside c.args.self.now.bytes.now c.in-Ok.layout c.in-Ok.ensures).0
 
-pub slice-bounds-result-end : goal.slice-bounds-result-end
-slice-bounds-result-end c = (inside c.args.self.now.bytes.now c.in-Ok.layout c.in-Ok.ensures).1
+pub slice_bounds-result-end : goal.slice_bounds-result-end
+slice_bounds-result-end c = (inside c.args.self.now.bytes.now c.in-Ok.layout c.in-Ok.ensures).1
 
 pub returns-in-Ok : goal.returns-in-Ok
 unfolding event_code_of

@@ -1,6 +1,6 @@
 use Rattle.section.specs.Rules.{refusal}
 use Rattle.section.proofs.section.Section.read.Goals as goal
 
-pub invariant-of-result : goal.invariant-of-result
+pub invariant_of-result : goal.invariant_of-result
 unfolding refusal
-invariant-of-result c = (c.check.ensures, tt)
+invariant_of-result c = record { told = c.check.ensures }
