@@ -6,5 +6,5 @@ use Rattle.document.proofs.escape.put_escaped.Goals as goal
 pub returns : goal.returns
 returns c = record {
   value = search rules;
-  after = tail_put c.args.out.now (escape c.args.words.now) c.put-front.new.out c.args.at (omega (arith, c.requires)) c.put-front.ensures.after;
+  after = tail_put c.args.out.now (escape c.args.words.now) c.put_front.new.out c.args.at (omega (arith, c.requires)) c.put_front.ensures.after;
 }

@@ -4,8 +4,8 @@ use Rattle.document.specs.Escaping.{escape, escaped}
 use Rattle.document.proofs.Escapes.{escape_more, escape_reach, put_more}
 use Rattle.document.proofs.escape.put_front.Goals as goal
 
-pub put-byte-at-requires : goal.put-byte-at-requires
-put-byte-at-requires c =
+pub put_byte-at-requires : goal.put_byte-at-requires
+put_byte-at-requires c =
     let r = escape_reach c.args.words.now c.loop-byte.byte-index (omega arith) in
     let p = c.requires in
     omega arith

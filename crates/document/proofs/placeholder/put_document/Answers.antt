@@ -7,7 +7,7 @@ pub returns-then-out-size-2 : goal.returns-then-out-size-2
 returns-then-out-size-2 c =
     let w = c.in-Some.ensures in
     let l = inserted_length c.args.document.now c.args.words.now c.in-Some.at w.bound in
-    let e = c.escaped-len-more.ensures.value in
+    let e = c.escaped_len-more.ensures.value in
     record { cases = (Some c.in-Some.at, (w.value, omega arith, refl)) }
 
 pub returns-else-out-size-3 : goal.returns-else-out-size-3
@@ -15,6 +15,6 @@ returns-else-out-size-3 c =
     let w = c.in-Some.ensures in
     let doc = c.args.document.now in
     let l = inserted_length doc c.args.words.now c.in-Some.at w.bound in
-    let e = c.escaped-len-more.ensures.value in
+    let e = c.escaped_len-more.ensures.value in
     let n = ap (λ k. inserted doc c.args.words.now (Some c.in-Some.at) ++ drop (length doc + k) c.args.out.now) e in
     record { cases = (Some c.in-Some.at, (w.value, omega arith, omega arith, cc)) }

@@ -43,7 +43,7 @@ loop-at-preserved-then-area-at-eq-METADATA c =
     let g = c.meet.new.self in
     let l : p + 2 + size - (p + 2) ≡ size = omega arith in
     let fits : p + 2 + size ≤ length area = c.if-area-end.false in
-    let small = first_small area (p + 2) (p + 2 + size - (p + 2)) (λ k. omega (arith, c.type-inv.area k)) in
+    let small = first_small area (p + 2) (p + 2 + size - (p + 2)) (λ k. omega (arith, c.type_inv.area k)) in
     let met : Held area (i.0 ++ record { tag = get_or area p 0; body = piece area (p + 2) (p + 2 + size - (p + 2)) } ∷ []) g =
     held_met area i.0 (record { tag = get_or area p 0; body = piece area (p + 2) (p + 2 + size - (p + 2)) }) c.loop-at.gathering g (p + 2) (p + 2 + size - (p + 2))
     (eq-eqb (get_or area p 0) 3 c.if-area-at-eq-METADATA.true) i.1.0 refl (omega arith) small c.meet.ensures.slots c.meet.ensures.count c.meet.ensures.broken c.meet.ensures.twice in

@@ -10,9 +10,9 @@ returns-in-Some c =
     let work = c.args.work.now in
     let words = c.args.words.now in
     let before = c.args.out.now in
-    let after = c.put-document.new.out in
+    let after = c.put_document.new.out in
     let f : Fills g work words before (Ok (record { size = c.in-Some.written })) after = search rules in
-    record { cases = f; document-of-the-section = λ s held. fills_of s g work words before after held (Ok (record { size = c.in-Some.written })) f }
+    record { cases = f; document_of_the_section = λ s held. fills_of s g work words before after held (Ok (record { size = c.in-Some.written })) f }
 
 pub returns-in-None : goal.returns-in-None
 returns-in-None c =
@@ -20,8 +20,8 @@ returns-in-None c =
     let work = c.args.work.now in
     let words = c.args.words.now in
     let before = c.args.out.now in
-    let after = c.put-document.new.out in
+    let after = c.put_document.new.out in
     let whole : g.size - 0 ≡ g.size = omega arith in
     let f : Fills g work words before (Err (record { refusal = Short; gathered = g })) after =
     (refl, (omega arith, inr (c.if-work-size.false, rw whole at c.in-None.ensures.cases))) in
-    record { cases = f; document-of-the-section = λ s held. fills_of s g work words before after held (Err (record { refusal = Short; gathered = g })) f }
+    record { cases = f; document_of_the_section = λ s held. fills_of s g work words before after held (Err (record { refusal = Short; gathered = g })) f }

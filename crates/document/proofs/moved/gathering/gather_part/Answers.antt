@@ -1,8 +1,8 @@
 use Rattle.document.proofs.Documents.{unended, faulty, short, granted}
 use Rattle.document.proofs.moved.gathering.gather_part.Goals as goal
 
-pub returns-in-default : goal.returns-in-default
-returns-in-default c = record { cases = unended c.args.area.now c.args.work.now c.in-default.ensures.cases }
+pub returns-in_default : goal.returns-in_default
+returns-in_default c = record { cases = unended c.args.area.now c.args.work.now c.in_default.ensures.cases }
 
 pub returns-in-Some-fault : goal.returns-in-Some-fault
 returns-in-Some-fault c =
@@ -12,9 +12,9 @@ returns-in-Some-fault c =
 pub returns-then-work-size : goal.returns-then-work-size
 returns-then-work-size c =
     let w = c.in-Some.ensures in
-    record { cases = short c.args.area.now c.args.work.now c.in-Some.gathering w.cases w.broken w.count w.twice w.slots c.total-size.result c.in-default-fault.ensures.value c.total-size.ensures.value c.if-work-size.true }
+    record { cases = short c.args.area.now c.args.work.now c.in-Some.gathering w.cases w.broken w.count w.twice w.slots c.total-size.result c.in_default-fault.ensures.value c.total-size.ensures.value c.if-work-size.true }
 
 pub returns : goal.returns
 returns c =
     let w = c.in-Some.ensures in
-    record { cases = granted c.args.area.now c.args.work.now c.in-Some.gathering w.cases w.broken w.count w.twice w.slots c.total-size.result c.write.new.work c.in-default-fault.ensures.value c.total-size.ensures.value c.if-work-size.false c.write.ensures.after }
+    record { cases = granted c.args.area.now c.args.work.now c.in-Some.gathering w.cases w.broken w.count w.twice w.slots c.total-size.result c.write.new.work c.in_default-fault.ensures.value c.total-size.ensures.value c.if-work-size.false c.write.ensures.after }
