@@ -10,7 +10,7 @@ use sets::{Set, Sound};
 
 // The picture under the alert in force, if any, for a viewer of the service.
 pub fn decide_picture<'a, S: Set>(set: &S, alert: &'a Option<Alert>, home: usize) -> Picture<'a>
-    ensures { Pictures result (pictured alert.now (meaning set.now).services home) }
+    ensures { Pictures result (pictured alert.now (S.meaning set.now).services home) }
 {
     let Some(alert) = alert else {
         return plain(home);

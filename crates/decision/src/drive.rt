@@ -8,7 +8,7 @@ use sets::{Set, SetRefusal, Sound};
 
 // Why the set cannot sound so.
 fn unheard_by<S: Set>(set: &S, sound: Sound) -> Option<SetRefusal>
-    ensures { result ≡ unheard (meaning set.now).services sound }
+    ensures { result ≡ unheard (S.meaning set.now).services sound }
 {
     match sound {
         Sound::Own => None,
@@ -26,7 +26,7 @@ fn unheard_by<S: Set>(set: &S, sound: Sound) -> Option<SetRefusal>
 
 // Why the set cannot show the picture.
 fn obstacle_to<S: Set>(set: &S, picture: &Picture<'_>) -> Option<SetRefusal>
-    ensures { result ≡ obstacle (meaning set.now).services picture.now }
+    ensures { result ≡ obstacle (S.meaning set.now).services picture.now }
 {
     if picture.service >= set.count() {
         return Some(SetRefusal::PastTheList);
@@ -46,8 +46,8 @@ fn obstacle_to<S: Set>(set: &S, picture: &Picture<'_>) -> Option<SetRefusal>
 // The service with its own sound. The set is asked first what it shows: a tuner that is told to tune
 // to the service that it shows would blink.
 fn turn<S: Set>(set: &mut S, number: usize)
-    requires { number < count_of (meaning set.old) }
-    ensures { meaning set.new ≡ tuned (meaning set.old) number }
+    requires { number < count_of (S.meaning set.old) }
+    ensures { S.meaning set.new ≡ tuned (S.meaning set.old) number }
 {
     if set.shown() == number {
         set.own();
@@ -58,9 +58,9 @@ fn turn<S: Set>(set: &mut S, number: usize)
 
 // The sound, on a set that has its own.
 fn hear<S: Set>(set: &mut S, sound: Sound)
-    requires sound_value { unheard (meaning set.old).services sound ≡ None }
-    requires set_value { (meaning set.old).sound ≡ Sound.Own }
-    ensures { meaning set.new ≡ heard (meaning set.old) sound }
+    requires sound_value { unheard (S.meaning set.old).services sound ≡ None }
+    requires set_value { (S.meaning set.old).sound ≡ Sound.Own }
+    ensures { S.meaning set.new ≡ heard (S.meaning set.old) sound }
 {
     if let Sound::Borrowed(k) = sound {
         let _ = set.borrow(k);
@@ -69,8 +69,8 @@ fn hear<S: Set>(set: &mut S, sound: Sound)
 
 // A picture that nothing stands against.
 fn show<S: Set>(set: &mut S, picture: &Picture<'_>)
-    requires { obstacle (meaning set.old).services picture.now ≡ None }
-    ensures { meaning set.new ≡ showing (meaning set.old).services picture.now }
+    requires { obstacle (S.meaning set.old).services picture.now ≡ None }
+    ensures { S.meaning set.new ≡ showing (S.meaning set.old).services picture.now }
 {
     turn(set, picture.service);
     hear(set, picture.sound);
@@ -79,7 +79,7 @@ fn show<S: Set>(set: &mut S, picture: &Picture<'_>)
 
 // Brings the set to the picture, whatever it meant before; refused, it is left as it was.
 pub fn drive_set<S: Set>(set: &mut S, picture: &Picture<'_>) -> Result<(), SetRefusal>
-    ensures { Drives (meaning set.old) picture.now result (meaning set.new) }
+    ensures { Drives (S.meaning set.old) picture.now result (S.meaning set.new) }
 {
     match obstacle_to(set, picture) {
         Some(e) => Err(e),

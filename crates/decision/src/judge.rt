@@ -55,7 +55,7 @@ fn does_apply(excepted: bool, priority: u8, service: Option<Service>) -> bool
 
 // Whether the alert applies to a viewer of the service.
 pub fn applies_to<S: Set>(set: &S, alert: &Alert, home: usize) -> bool
-    ensures { result ≡ applies_to alert.now (meaning set.now).services home }
+    ensures { result ≡ applies_to alert.now (S.meaning set.now).services home }
 {
     does_apply(
         alert.excepted.holds(home),

@@ -46,7 +46,7 @@ fn excepted_by<S: Set>(
     set: &S,
     path: Path,
 ) -> Result<Excepted, SectionRefusal>
-    ensures { MatchResult result (λ x. (k : ℕ) → k < 256 → Marked section.now.bytes.now path (service_at (meaning set.now).services k) (slice_index_or x.marks k false)) (λ e. refusal section.now.bytes.now ≡ Some e) }
+    ensures { MatchResult result (λ x. (k : ℕ) → k < 256 → Marked section.now.bytes.now path (service_at (S.meaning set.now).services k) (slice_index_or x.marks k false)) (λ e. refusal section.now.bytes.now ≡ Some e) }
 {
     let mut marks = [false; 256];
     for k in 0..256usize {
@@ -66,8 +66,8 @@ pub fn keep_alert<S: Set>(
     path: Path,
     clock: u32,
 ) -> Result<Alert, SectionRefusal>
-    ensures cases { Kept section.now.bytes.now (meaning set.now).services path clock result }
-    ensures fits { KeptFits (meaning set.now).services result }
+    ensures cases { Kept section.now.bytes.now (S.meaning set.now).services path clock result }
+    ensures fits { KeptFits (S.meaning set.now).services result }
 {
     let fields = match section.fields() {
         Ok(fields) => fields,

@@ -9,7 +9,7 @@ use station::Path;
 
 // The first service that has the name.
 pub fn first_named<S: Set>(set: &S, name: Name) -> Option<usize>
-    ensures { result ≡ first_of (bears name) (meaning set.now).services }
+    ensures { result ≡ first_of (bears name) (S.meaning set.now).services }
 {
     for k in 0..set.count() {
         if is_named(set.service(k), name) {
@@ -21,7 +21,7 @@ pub fn first_named<S: Set>(set: &S, name: Name) -> Option<usize>
 
 // The details service: in-band by its channel pair, out-of-band by its source ID.
 pub fn details_service<S: Set>(set: &S, path: Path, fields: &Fields) -> Option<usize>
-    ensures { result ≡ details_of path fields.now (meaning set.now).services }
+    ensures { result ≡ details_of path fields.now (S.meaning set.now).services }
 {
     match path {
         Path::InBand => first_named(set, Name::Channel(fields.details_channel)),
@@ -31,7 +31,7 @@ pub fn details_service<S: Set>(set: &S, path: Path, fields: &Fields) -> Option<u
 
 // The service, if its sound can be heard apart from its picture.
 fn if_apart<S: Set>(set: &S, number: Option<usize>) -> Option<usize>
-    ensures { result ≡ if_apart (meaning set.now).services number }
+    ensures { result ≡ if_apart (S.meaning set.now).services number }
 {
     let k = number?;
     let service = set.service(k)?;
@@ -40,7 +40,7 @@ fn if_apart<S: Set>(set: &S, number: Option<usize>) -> Option<usize>
 
 // Out-of-band, the audio service if it is apart.
 fn audio_service<S: Set>(set: &S, path: Path, fields: &Fields) -> Option<usize>
-    ensures { result ≡ audio_of path fields.now (meaning set.now).services }
+    ensures { result ≡ audio_of path fields.now (S.meaning set.now).services }
 {
     match path {
         Path::InBand => None,
@@ -58,7 +58,7 @@ pub fn borrowable_sound<S: Set>(
     fields: &Fields,
     details: Option<usize>,
 ) -> Option<usize>
-    ensures { result ≡ sound_by path fields.now (meaning set.now).services details }
+    ensures { result ≡ sound_by path fields.now (S.meaning set.now).services details }
 {
     match audio_service(set, path, fields) {
         Some(k) => Some(k),

@@ -14,7 +14,7 @@ pub fn present_alert<S: Set>(
     alert: &Option<Alert>,
     home: usize,
 ) -> Result<(), SetRefusal>
-    ensures { Presents (meaning set.old) alert.now home result (meaning set.new) }
+    ensures { Presents (S.meaning set.old) alert.now home result (S.meaning set.new) }
 {
     let picture = decide_picture(set, alert, home);
     drive_set(set, &picture)

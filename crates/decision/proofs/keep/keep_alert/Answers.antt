@@ -17,15 +17,15 @@ returns g c =
     let n = c.in-Ok-text.ensures.0 in
     let same : ◌≡◌ {A = Result Fields SectionRefusal} (Ok c.in-Ok.fields) (Ok (fields_of s)) = c.in-Ok.ensures ∙ ap (λ o. or_refused o (fields_of s)) n in
     let f : c.in-Ok.fields ≡ fields_of s = cc in
-    let d : c.details-service-details.result ≡ details_of path (fields_of s) ss = c.details-service-details.ensures ∙ ap (λ x. details_of path x ss) f in
+    let d : c.details_service-details.result ≡ details_of path (fields_of s) ss = c.details_service-details.ensures ∙ ap (λ x. details_of path x ss) f in
     let kept : Keeps s ss path c.args.clock _ =
     record {
       event = ap (λ x. x.event_id) f;
       priority = ap (λ x. x.priority) f;
-      end = c.end-of.ensures ∙ ap (λ x. end_of c.args.clock x.seconds.0) f;
+      end = c.end_of.ensures ∙ ap (λ x. end_of c.args.clock x.seconds.0) f;
       details = d;
-      sound = c.borrowable-sound.ensures ∙ ap (λ x. sound_by path x ss c.details-service-details.result) f ∙ ap (sound_by path (fields_of s) ss) d;
+      sound = c.borrowable_sound.ensures ∙ ap (λ x. sound_by path x ss c.details_service-details.result) f ∙ ap (sound_by path (fields_of s) ss) d;
       words = c.in-Ok-text.ensures.1;
-      marks = c.in-Ok-excepted-by.ensures;
+      marks = c.in-Ok-excepted_by.ensures;
     } in
     record { cases = (n, kept); fits = keeps_fits s ss path c.args.clock _ kept }

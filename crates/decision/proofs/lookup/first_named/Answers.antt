@@ -4,19 +4,19 @@ use Rattle.decision.specs.Lookups.{bears, holds, first_from}
 use Rattle.decision.proofs.Firsts.{next}
 use Rattle.decision.proofs.lookup.first_named.Goals as goal
 
-pub returns-then-is-named : goal.returns-then-is-named
-returns-then-is-named g c =
+pub returns-then-is_named : goal.returns-then-is_named
+returns-then-is_named g c =
     let ss = (g.S.Set.meaning c.args.set.now).services in
     let k = c.loop-k.k in
     let p = bears c.args.name in
-    ap (λ b. cond b (Some k) (first_from (k + 1) p (drop (k + 1) ss))) (c.if-is-named.ensures ∙ ap (holds p) c.service.ensures.value) ∙ sym (next p k ss k (omega (arith, c.count-k-end.ensures.value))) ∙ c.loop-k.invariant
+    ap (λ b. cond b (Some k) (first_from (k + 1) p (drop (k + 1) ss))) (c.if-is_named.ensures ∙ ap (holds p) c.service.ensures.value) ∙ sym (next p k ss k (omega (arith, c.count-k-end.ensures.value))) ∙ c.loop-k.invariant
 
 pub loop-k-preserved : goal.loop-k-preserved
 loop-k-preserved g c =
     let ss = (g.S.Set.meaning c.args.set.now).services in
     let k = c.loop-k.k in
     let p = bears c.args.name in
-    ap (λ b. cond b (Some k) (first_from (k + 1) p (drop (k + 1) ss))) (c.if-is-named.ensures ∙ ap (holds p) c.service.ensures.value) ∙ sym (next p k ss k (omega (arith, c.count-k-end.ensures.value))) ∙ c.loop-k.invariant
+    ap (λ b. cond b (Some k) (first_from (k + 1) p (drop (k + 1) ss))) (c.if-is_named.ensures ∙ ap (holds p) c.service.ensures.value) ∙ sym (next p k ss k (omega (arith, c.count-k-end.ensures.value))) ∙ c.loop-k.invariant
 
 pub returns : goal.returns
 returns g c =

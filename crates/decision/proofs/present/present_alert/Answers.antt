@@ -3,5 +3,5 @@ use Rattle.decision.proofs.present.present_alert.Goals as goal
 
 pub returns : goal.returns
 returns g c =
-    presents (g.S.Set.meaning c.args.set.now) (g.S.Set.meaning c.drive-set.new.set) c.args.alert.now c.args.home c.decide-picture-picture.result c.drive-set.result
-    c.decide-picture-picture.ensures c.drive-set.ensures
+    presents (g.S.Set.meaning c.args.set.now) (g.S.Set.meaning c.drive_set.new.set) c.args.alert.now c.args.home c.decide_picture-picture.result c.drive_set.result
+    c.decide_picture-picture.ensures c.drive_set.ensures
