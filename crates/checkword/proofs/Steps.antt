@@ -1,5 +1,5 @@
 -- Laws of the check register. Assumes nothing.
-use Rattle.std.proofs.Common.{◌≡◌, ℕ, zero, suc, ◌+◌, ◌*◌, ◌/◌, ◌%◌, ◌^◌, ◌<◌, ◌≤◌, List, map, get_or, sym, refl, ap, ◌∙◌, subst, ⊎_elim, add-zero, mul_assoc, pow-suc, mul-one, add-one, arith}
+use Rattle.std.proofs.Common.{◌≡◌, ℕ, zero, suc, ◌+◌, ◌*◌, ◌/◌, ◌%◌, ◌^◌, ◌<◌, List, map, get_or, sym, refl, ap, ◌∙◌, add-zero, mul_assoc, pow-suc, mul-one, arith}
 use lib.Bits.{bit_xor, xor_zero_r, xor_shr, xor_mod, xor_block, xor_assoc, xor_comm, xor_lt, xor_shifted}
 use Rattle.std.specs.List.{range_with_len}
 use Rattle.std.proofs.lemmas.List.FromFn.{get_or-map-range_with_len}

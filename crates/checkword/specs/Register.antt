@@ -1,5 +1,5 @@
 -- The check register of a section: 32 bits, polynomial 0x04C11DB7, highest bit first, started at 0xFFFFFFFF. Assumes nothing.
-use Rattle.std.specs.Prelude.{ℕ, zero, suc, ◌*◌, ◌/◌, ◌%◌, ◌^◌, List, [], ◌∷◌, fold, bit_xor}
+use Rattle.std.specs.Prelude.{ℕ, zero, suc, ◌*◌, ◌/◌, ◌%◌, ◌^◌, List, fold, bit_xor}
 
 -- the register moves up by one bit; where a 1 leaves at the top, the polynomial goes in
 unfoldable pub moved : ℕ → ℕ

@@ -4,10 +4,8 @@ use Rattle.std.proofs.lemmas.Bool.{lt-ltb, le-leb}
 use Rattle.station.specs.declared.service.Service.{Service}
 use Rattle.text.specs.Said.{said}
 use Rattle.text.specs.declared.line.Text.{Text}
-use Rattle.sets.specs.declared.sound.Sound.{Sound}
-use Rattle.sets.specs.declared.sound.Sound.TheVariants.{Own, Borrowed}
 use Rattle.sets.specs.declared.refusal.SetRefusal.TheVariants.{PastTheList, NotApart, CaptionTooLong}
-use Rattle.sets.specs.Meaning.{Meaning, service_at, apart_at}
+use Rattle.sets.specs.Meaning.{Meaning, apart_at}
 use Rattle.decision.specs.declared.alert.Alert.{Alert}
 use Rattle.decision.specs.declared.picture.Picture.{Picture}
 use Rattle.station.specs.declared.service.Path.{Path}

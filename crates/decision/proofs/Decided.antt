@@ -1,8 +1,7 @@
 -- The picture by cases of the alert. Assumes nothing.
-use Rattle.std.proofs.Common.{◌≡◌, ℕ, Bool, true, false, cond, List, [], Some, None, Option, sym, refl, ap, ◌∙◌, subst}
+use Rattle.std.proofs.Common.{◌≡◌, ℕ, Bool, true, false, cond, List, [], Some, None, Option, sym, subst}
 use Rattle.station.specs.declared.service.Service.{Service}
-use Rattle.sets.specs.declared.sound.Sound.TheVariants.{Own, Borrowed}
-use Rattle.sets.specs.Meaning.{Meaning}
+use Rattle.sets.specs.declared.sound.Sound.TheVariants.{Own}
 use Rattle.decision.specs.declared.alert.Alert.{Alert}
 use Rattle.decision.specs.declared.picture.Picture.{Picture}
 use Rattle.decision.specs.Pictures.{applies_to, plain, alerted, pictured}

@@ -1,5 +1,5 @@
 -- The first service that a test holds of. Assumes nothing.
-use Rattle.std.proofs.Common.{◌≡◌, ℕ, zero, suc, ◌+◌, ◌<◌, ◌≤◌, Bool, true, false, cond, List, [], ◌∷◌, length, drop, Some, None, Option, sym, refl, ap, ◌∙◌, add-one, arith}
+use Rattle.std.proofs.Common.{◌≡◌, ℕ, zero, suc, ◌+◌, ◌<◌, Bool, cond, List, [], ◌∷◌, length, drop, Some, sym, refl, ap, ◌∙◌, add-one, arith}
 use Rattle.station.specs.declared.service.Service.{Service}
 use Rattle.sets.specs.Meaning.{service_at}
 use Rattle.decision.specs.Lookups.{holds, first_from}

@@ -1,10 +1,9 @@
 -- The three sentences and the definition of the picture. Assumes nothing.
-use Rattle.std.proofs.Common.{◌≡◌, ℕ, ◌≤◌, Bool, true, false, cond, ◌&&◌, leb, List, [], Some, None, Option, sym, refl, ap, ◌∙◌, subst, arith}
+use Rattle.std.proofs.Common.{◌≡◌, ℕ, Bool, true, false, cond, leb, List, Some, None, Option, sym, refl, ap, ◌∙◌, subst, arith}
 use Rattle.std.proofs.lemmas.Bool.{and_parts, and_from, leb-true, le-leb, both_ways}
 use Rattle.station.specs.declared.service.Service.{Service}
 use Rattle.text.specs.Said.{said}
-use Rattle.sets.specs.declared.sound.Sound.{Sound}
-use Rattle.sets.specs.declared.sound.Sound.TheVariants.{Own, Borrowed}
+use Rattle.sets.specs.declared.sound.Sound.TheVariants.{Own}
 use Rattle.sets.specs.Meaning.{Meaning}
 use Rattle.decision.specs.declared.alert.Alert.{Alert}
 use Rattle.decision.specs.Pictures.{applies_to, between, shown_by, sound_from, service_for, plain, alerted, pictured}

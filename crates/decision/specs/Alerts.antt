@@ -1,5 +1,5 @@
 -- What is kept of an alert that comes into force, from its section, the services, the path and the clock. Assumes nothing.
-use Rattle.std.specs.Prelude.{◌≡◌, ℕ, ◌+◌, ◌<◌, Bool, true, false, cond, List, length, Some, None, Ok, Err, Option, Result, ◌==◌, slice_index_or}
+use Rattle.std.specs.Prelude.{◌≡◌, ℕ, ◌+◌, ◌<◌, Bool, false, cond, List, Some, None, Ok, Err, Option, Result, ◌==◌, slice_index_or}
 use Rattle.station.specs.declared.service.Service.{Service}
 use Rattle.station.specs.declared.service.Path.{Path}
 use Rattle.entries.specs.Exceptions.{Excepts}
@@ -9,7 +9,7 @@ use Rattle.section.specs.Values.{fields_of}
 use Rattle.section.specs.Texts.{alert_text}
 use Rattle.section.specs.Rules.{refusal}
 use Rattle.section.specs.declared.refusal.SectionRefusal.{SectionRefusal}
-use Rattle.sets.specs.Meaning.{service_at, apart_at}
+use Rattle.sets.specs.Meaning.{service_at}
 use Rattle.decision.specs.Lookups.{details_of, sound_of}
 use Rattle.decision.specs.declared.alert.Alert.{Alert}
 

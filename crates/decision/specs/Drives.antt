@@ -1,5 +1,5 @@
 -- A picture, and what a set does that is brought to it. Assumes nothing.
-use Rattle.std.specs.Prelude.{◌≡◌, ℕ, Bool, true, false, cond, List, length, Some, None, Ok, Err, Option, Result, nat_le, nat_lt}
+use Rattle.std.specs.Prelude.{◌≡◌, cond, List, length, Some, None, Ok, Err, Option, Result, nat_le, nat_lt}
 use Rattle.station.specs.declared.service.Service.{Service}
 use Rattle.sets.specs.declared.sound.Sound.{Sound}
 use Rattle.sets.specs.declared.sound.Sound.TheVariants.{Own, Borrowed}

@@ -1,5 +1,5 @@
 -- The services that an alert points to. Assumes nothing.
-use Rattle.std.specs.Prelude.{ℕ, zero, suc, ◌+◌, Bool, true, false, cond, not, ◌&&◌, List, [], ◌∷◌, Some, None, Option, ◌==◌}
+use Rattle.std.specs.Prelude.{ℕ, ◌+◌, Bool, false, cond, not, ◌&&◌, List, [], ◌∷◌, Some, None, Option, ◌==◌}
 use Rattle.station.specs.declared.service.Service.{Service}
 use Rattle.station.specs.declared.service.Path.{Path}
 use Rattle.station.specs.declared.service.Path.TheVariants.{InBand, OutOfBand}

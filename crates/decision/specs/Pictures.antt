@@ -1,5 +1,5 @@
 -- The picture that an alert asks for. Assumes nothing.
-use Rattle.std.specs.Prelude.{◌≡◌, ℕ, ◌<◌, ◌≤◌, Bool, true, false, cond, not, ◌&&◌, List, [], length, Some, None, Option, nat_le, slice_index_or}
+use Rattle.std.specs.Prelude.{ℕ, Bool, false, cond, not, ◌&&◌, List, [], Some, None, Option, nat_le, slice_index_or}
 use Rattle.station.specs.declared.service.Service.{Service}
 use Rattle.text.specs.Said.{said}
 use Rattle.sets.specs.declared.sound.Sound.{Sound}

@@ -1,6 +1,6 @@
 -- The places rise, so that the last one bounds them all. Assumes nothing.
-use Rattle.std.proofs.Common.{◌≡◌, ℕ, ◌+◌, ◌*◌, ◌%◌, ◌<◌, ◌≤◌, true, List, length, get_or, ap, arith, eqb-true}
-use Rattle.section.specs.Places.{word, after, nature_at, times_at, text_at, locations_at, exceptions_at, descriptors_at, check_at}
+use Rattle.std.proofs.Common.{◌≡◌, ℕ, ◌+◌, ◌*◌, ◌≤◌, true, List, length, get_or, arith, eqb-true}
+use Rattle.section.specs.Places.{nature_at, times_at, text_at, locations_at, exceptions_at, descriptors_at, check_at}
 use Rattle.section.specs.Rules.{adds}
 
 pub record Rises (s : List ℕ) : Type 0 where

@@ -1,5 +1,5 @@
 -- What the nine bytes of the head state, and the body after them. Assumes nothing.
-use Rattle.std.specs.Prelude.{◌≡◌, ℕ, ◌+◌, ◌*◌, ◌/◌, ◌%◌, ◌≤◌, List, length, drop, slice_index}
+use Rattle.std.specs.Prelude.{◌≡◌, ℕ, ◌/◌, ◌%◌, ◌≤◌, List, length, drop, slice_index}
 use Rattle.section.specs.Places.{word}
 use Rattle.section.specs.Values.{sequence_of}
 use Rattle.section.specs.declared.head.Head.{Head}

@@ -1,5 +1,5 @@
 -- Where the parts of a section stand, by its stated lengths. Past its end a section counts as 0. Assumes nothing.
-use Rattle.std.specs.Prelude.{ℕ, ◌+◌, ◌-◌, ◌*◌, ◌%◌, List, slice_index, slice_range}
+use Rattle.std.specs.Prelude.{ℕ, ◌+◌, ◌*◌, ◌%◌, List, slice_index, slice_range}
 use Rattle.section.specs.declared.layout.Layout.{Layout}
 use Rattle.section.specs.declared.layout.Span.{Span}
 

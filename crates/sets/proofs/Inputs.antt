@@ -1,5 +1,5 @@
 -- The inputs of the bus by number. Assumes nothing.
-use Rattle.std.proofs.Common.{◌≡◌, ℕ, zero, suc, ◌+◌, ◌<◌, ◌≤◌, Some, sym, refl, ap, ◌∙◌, add-zero, arith}
+use Rattle.std.proofs.Common.{◌≡◌, ℕ, zero, suc, ◌+◌, ◌<◌, Some, sym, ap, ◌∙◌, add-zero, arith}
 use Rattle.sets.specs.Meaning.{service_at}
 use Rattle.sets.specs.Bus.{input, inputs}
 

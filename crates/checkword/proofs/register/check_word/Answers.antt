@@ -1,4 +1,4 @@
-use Rattle.std.proofs.Common.{◌≡◌, ℕ, ◌+◌, ◌^◌, ◌<◌, get_or, take, fold, sym, ap, ◌∙◌, arith, take_all}
+use Rattle.std.proofs.Common.{◌≡◌, ℕ, ◌+◌, ◌^◌, ◌<◌, get_or, fold, sym, ap, ◌∙◌, arith, take_all}
 use lib.Bits.{bit_xor, xor_lt}
 use Rattle.checkword.specs.Register.{entered, moves}
 use Rattle.checkword.proofs.Split.{one_more, eight_more, by_words}

@@ -1,6 +1,6 @@
-use Rattle.std.proofs.Common.{◌≡◌, ℕ, ◌*◌, ◌/◌, ◌^◌, ◌<◌, Bool, eqb, get_or, sym, refl, ap, ◌∙◌, arith, eqb→eq}
+use Rattle.std.proofs.Common.{ℕ, ◌/◌, ◌^◌, ◌<◌, arith}
 use lib.Bits.{bit_xor, xor_lt}
-use Rattle.checkword.specs.Register.{moves, moved, entered}
+use Rattle.checkword.specs.Register.{moves, moved}
 use Rattle.checkword.proofs.Steps.{entry, by_table}
 use Rattle.checkword.proofs.register.enter.Goals as goal
 

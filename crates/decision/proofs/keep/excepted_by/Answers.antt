@@ -1,4 +1,4 @@
-use Rattle.std.proofs.Common.{◌≡◌, ◌<◌, ◌≢◌, length, subst, arith, length-set, get_or-set_other, get_or-set_same, below_more}
+use Rattle.std.proofs.Common.{◌<◌, ◌≢◌, length, subst, arith, length-set, get_or-set_other, get_or-set_same, below_more}
 use Rattle.decision.specs.Alerts.{Marked}
 use Rattle.decision.proofs.keep.excepted_by.Goals as goal
 

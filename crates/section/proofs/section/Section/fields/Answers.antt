@@ -1,4 +1,4 @@
-use Rattle.std.proofs.Common.{◌≡◌, length, sym, ap, arith}
+use Rattle.std.proofs.Common.{◌≡◌, sym, ap, arith}
 use Rattle.section.specs.Places.{times_at}
 use Rattle.section.specs.Rules.{or_refused}
 use Rattle.section.specs.Values.{fields_of}
