@@ -80,9 +80,9 @@ mod tests {
         let mut input: &[u8] = b"ab\n\n12345";
         let mut line = LineBuffer::new(rt.alloc(), 3);
         assert!(rt; next_line(&mut input, &mut line)?);
-        assert_eq!(rt; line.bytes(), b"ab");
+        assert_eq!(rt; line.bytes(), &b"ab"[..]);
         assert!(rt; next_line(&mut input, &mut line)?);
-        assert_eq!(rt; line.bytes(), b"");
+        assert_eq!(rt; line.bytes(), &b""[..]);
         assert!(rt; next_line(&mut input, &mut line)?);
         assert_eq!(rt; line.past(), 2);
         assert!(rt; !next_line(&mut input, &mut line)?);
