@@ -1,5 +1,5 @@
 -- A buffer holds nothing of no line, and one piece more of a line. Assumes nothing.
-use Rattle.std.proofs.Common.{◌≡◌, ℕ, zero, suc, ◌+◌, ◌-◌, ◌^◌, ◌<◌, ◌≤◌, min, Bool, true, false, not, ◌&&◌, eqb, leb, List, [], ◌∷◌, ◌++◌, length, take, drop, vec_items, vec_len, fold, sym, refl, ap, ◌∙◌, ⊎_elim, arith, length-append, length-take, take_all}
+use Rattle.std.proofs.Common.{◌≡◌, ℕ, zero, suc, ◌+◌, ◌-◌, ◌^◌, ◌≤◌, min, Bool, true, not, ◌&&◌, eqb, leb, List, [], ◌∷◌, ◌++◌, length, take, drop, vec_items, vec_len, fold, sym, ap, ◌∙◌, ⊎_elim, arith, length-append, length-take, take_all}
 use lib.Seq.{take-nil, drop-nil}
 use Rattle.std.proofs.lemmas.List.{drop_all, nil_from_length}
 use Rattle.std.proofs.lemmas.Bool.{cases_lt, leb-true, eqb-true, not-false, true≢false}
@@ -7,10 +7,8 @@ use Rattle.std.proofs.lemmas.Bool.Decides.{nat_tests}
 use Rattle.std.proofs.iter.runs.Lists.{fold-append}
 use Rattle.lines.proofs.Feeds.{none_in_both}
 use Rattle.lines.specs.declared.buffer.LineBuffer.{LineBuffer}
-use Rattle.lines.specs.declared.tail.Tail.{Tail}
 use Rattle.lines.specs.declared.tail.Tail.TheVariants.{Digits}
 use Rattle.lines.specs.Held.{Holds, GoesOn, HoldsLine, HoldsNext}
-use Rattle.lines.specs.Ends.{has_feed}
 use Rattle.lines.specs.Tails.{tail_after, tail_of}
 
 pub holds_none : (b : LineBuffer) → vec_items b.kept ≡ [] → b.past ≡ 0 → b.tail ≡ Digits → Holds b []

@@ -1,4 +1,4 @@
-use Rattle.std.proofs.Common.{◌≡◌, true, drop}
+use Rattle.std.proofs.Common.{◌≡◌, drop}
 use Rattle.lines.specs.Decimal.{all_decimal}
 use Rattle.lines.proofs.decimal.all_decimal.Given as goal
 

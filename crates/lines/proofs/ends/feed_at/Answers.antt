@@ -1,5 +1,4 @@
-use Rattle.std.proofs.Common.{◌<◌, ◌≤◌, arith}
-use Rattle.lines.specs.Ends.{feed_at}
+use Rattle.std.proofs.Common.{arith}
 use Rattle.lines.proofs.Feeds.{feed_in_chunk, feed_past_chunk, feed_in_rest, feed_within}
 use Rattle.lines.proofs.ends.feed_at.Goals as goal
 

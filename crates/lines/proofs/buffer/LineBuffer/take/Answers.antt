@@ -1,6 +1,6 @@
 use Rattle.std.proofs.Common.{◌≡◌, ◌-◌, ltb, ◌++◌, length, take, ap, subst, arith}
 use Rattle.std.proofs.lemmas.Bool.Decides.{nat_tests}
-use Rattle.lines.specs.Ends.{feed_at, through_feed, before_feed}
+use Rattle.lines.specs.Ends.{feed_at, through_feed}
 use Rattle.lines.specs.Held.{Holds}
 use Rattle.lines.proofs.buffer.LineBuffer.take.Goals as goal
 use Rattle.lines.proofs.buffer.LineBuffer.take.Goals.{then-ended, else-ended}
