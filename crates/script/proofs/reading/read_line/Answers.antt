@@ -6,10 +6,10 @@ use Rattle.script.specs.Words.{words_ask}
 use Rattle.script.proofs.Lining.{asked_by, words_leave, either_way}
 use Rattle.script.proofs.reading.read_line.Goals as goal
 
-pub returns-then-is-comment : goal.returns-then-is-comment
-returns-then-is-comment c =
+pub returns-then-is_comment : goal.returns-then-is_comment
+returns-then-is_comment c =
     record {
-      value = λ text holds small k. asked_by c.args.line.now.most text _ _ _ _ _ refl (c.if-is-comment.ensures.value text holds (omega arith)) refl refl refl;
+      value = λ text holds small k. asked_by c.args.line.now.most text _ _ _ _ _ refl (c.if-is_comment.ensures.value text holds (omega arith)) refl refl refl;
       after = λ text holds. sym (either_way (leb (length text) c.args.line.now.most) c.args.room.now c.args.room.now refl);
     }
 
@@ -17,39 +17,39 @@ pub returns-in-Some : goal.returns-in-Some
 returns-in-Some c =
     record {
       value = λ text holds small k.
-          asked_by c.args.line.now.most text _ _ _ _ _ refl (c.if-is-comment.ensures.value text holds (omega arith))
+          asked_by c.args.line.now.most text _ _ _ _ _ refl (c.if-is_comment.ensures.value text holds (omega arith))
           (c.in-Some.ensures.value text holds small (omega arith)) refl refl;
       after = λ text holds. c.in-Some.ensures.after text holds;
     }
 
-pub returns-in-Some-hex-value : goal.returns-in-Some-hex-value
-returns-in-Some-hex-value c =
+pub returns-in-Some-hex_value : goal.returns-in-Some-hex_value
+returns-in-Some-hex_value c =
     let most = c.args.line.now.most in
     let room = c.args.room.now in
     record {
       value = λ text holds small k.
-          asked_by most text _ _ _ _ _ refl (c.if-is-comment.ensures.value text holds (omega arith))
-          (c.in-default.ensures.value text holds small (omega arith)) (c.in-Some-hex-value.ensures.value text holds small (omega arith)) refl;
+          asked_by most text _ _ _ _ _ refl (c.if-is_comment.ensures.value text holds (omega arith))
+          (c.in_default.ensures.value text holds small (omega arith)) (c.in-Some-hex_value.ensures.value text holds small (omega arith)) refl;
       after = λ text holds.
-          c.in-Some-hex-value.ensures.after text holds
-          ∙ ap (λ r. cond (leb (length text) most) (put_into r (drop 9 (unreturned text)) (Some c.in-Some-hex-value.size)) r)
-          (c.in-default.ensures.after text holds ∙ either_way (leb (length text) most) room room refl);
+          c.in-Some-hex_value.ensures.after text holds
+          ∙ ap (λ r. cond (leb (length text) most) (put_into r (drop 9 (unreturned text)) (Some c.in-Some-hex_value.size)) r)
+          (c.in_default.ensures.after text holds ∙ either_way (leb (length text) most) room room refl);
     }
 
-pub returns-in-Some-whole-text : goal.returns-in-Some-whole-text
-returns-in-Some-whole-text c =
+pub returns-in-Some-whole_text : goal.returns-in-Some-whole_text
+returns-in-Some-whole_text c =
     let most = c.args.line.now.most in
     let room = c.args.room.now in
     record {
       value = λ text holds small k.
-          let said = c.in-Some-whole-text.ensures.cases text holds in
-          asked_by most text c.read-words.result _ _ _ _ (c.read-words.ensures.value ∙ ap words_ask said.1) (c.if-is-comment.ensures.value text holds (omega arith))
-          (c.in-default.ensures.value text holds small (omega arith)) (c.in-default-hex-value.ensures.value text holds small (omega arith)) (sym said.0);
+          let said = c.in-Some-whole_text.ensures.cases text holds in
+          asked_by most text c.read_words.result _ _ _ _ (c.read_words.ensures.value ∙ ap words_ask said.1) (c.if-is_comment.ensures.value text holds (omega arith))
+          (c.in_default.ensures.value text holds small (omega arith)) (c.in_default-hex_value.ensures.value text holds small (omega arith)) (sym said.0);
       after = λ text holds.
-          c.in-default-hex-value.ensures.after text holds ∙ either_way (leb (length text) most) c.hex-value.new.room c.hex-value.new.room refl
-          ∙ c.in-default.ensures.after text holds ∙ either_way (leb (length text) most) room room refl
-          ∙ sym (either_way (leb (length text) most) (room_for room (unreturned text) c.read-words.result) room
-          (ap (room_for room (unreturned text)) c.read-words.ensures.value ∙ words_leave room (unreturned text) c.in-Some-whole-text.text.now));
+          c.in_default-hex_value.ensures.after text holds ∙ either_way (leb (length text) most) c.hex_value.new.room c.hex_value.new.room refl
+          ∙ c.in_default.ensures.after text holds ∙ either_way (leb (length text) most) room room refl
+          ∙ sym (either_way (leb (length text) most) (room_for room (unreturned text) c.read_words.result) room
+          (ap (room_for room (unreturned text)) c.read_words.ensures.value ∙ words_leave room (unreturned text) c.in-Some-whole_text.text.now));
     }
 
 pub returns-in-None : goal.returns-in-None
@@ -58,9 +58,9 @@ returns-in-None c =
     let room = c.args.room.now in
     record {
       value = λ text holds small k.
-          asked_by most text _ _ _ _ _ refl (c.if-is-comment.ensures.value text holds (omega arith))
-          (c.in-default.ensures.value text holds small (omega arith)) (c.in-default-hex-value.ensures.value text holds small (omega arith)) (sym (c.in-None.ensures.cases text holds));
+          asked_by most text _ _ _ _ _ refl (c.if-is_comment.ensures.value text holds (omega arith))
+          (c.in_default.ensures.value text holds small (omega arith)) (c.in_default-hex_value.ensures.value text holds small (omega arith)) (sym (c.in-None.ensures.cases text holds));
       after = λ text holds.
-          c.in-default-hex-value.ensures.after text holds ∙ either_way (leb (length text) most) c.hex-value.new.room c.hex-value.new.room refl
-          ∙ c.in-default.ensures.after text holds;
+          c.in_default-hex_value.ensures.after text holds ∙ either_way (leb (length text) most) c.hex_value.new.room c.hex_value.new.room refl
+          ∙ c.in_default.ensures.after text holds;
     }
