@@ -1,5 +1,5 @@
 -- What one call more does to each part of the sheet. Assumes nothing.
-use Rattle.std.proofs.Common.{◌≡◌, ℕ, ◌<◌, ◌≤◌, ◌⊎◌, List, [], ◌∷◌, ◌++◌, length, take, Some, None, Option, sym, refl, ap, ◌∙◌, subst, inl, inr, ⊎_elim, arith}
+use Rattle.std.proofs.Common.{◌≡◌, ℕ, ◌<◌, ◌≤◌, List, [], ◌∷◌, ◌++◌, length, take, Some, None, Option, sym, refl, ap, ◌∙◌, subst, inl, inr, ⊎_elim, arith}
 use Rattle.section.specs.Rules.{refusal}
 use Rattle.section.specs.Values.{fields_of}
 use Rattle.section.specs.declared.fields.SequenceNumber.{SequenceNumber}
@@ -7,7 +7,7 @@ use Rattle.sets.specs.Meaning.{Lawful, count_of}
 use Rattle.decision.specs.Alerts.{Keeps}
 use Rattle.decision.specs.declared.alert.Alert.{Alert}
 use Rattle.history.specs.Histories.{Event, sent, told, chose, Start, event_at, clock_after}
-use Rattle.history.specs.Sections.{sequence, WellFormed, sequence_at, New, Taken}
+use Rattle.history.specs.Sections.{WellFormed, sequence_at, New, Taken}
 use Rattle.history.specs.Viewers.{Chosen, Home}
 use Rattle.history.specs.Forces.{Past, end_at, AlertInForce}
 use Rattle.history.specs.Stands.{Remembered, Held}

@@ -7,11 +7,11 @@ use Rattle.history.specs.Stands.{Stands}
 use Rattle.history.specs.declared.state.State.{State}
 use Rattle.history.proofs.Sparing.{one_picture}
 use Rattle.history.proofs.Turns.{lawful_run}
-use Rattle.receiver.specs.Stood.{Stood, Goes_on, Shows, Spares}
+use Rattle.receiver.specs.Stood.{Stood, GoesOn, Shows, Spares}
 use Rattle.receiver.specs.declared.receiver.Receiver.{Receiver}
 
 module _ {S : Type 0} (mean : S → Meaning) (e : Event) (before after : Receiver S) (next : State) (is : after.state ≡ next) (on : (s : Start) (h : List Event) → Stood mean s h before → Stands s (h ++ e ∷ []) next (mean after.set)) where
-  pub goes_on : Goes_on mean e before after
+  pub goes_on : GoesOn mean e before after
   goes_on s h x = subst (λ (y : State). Stands s (h ++ e ∷ []) y (mean after.set)) (sym is) (on s h x)
 
   pub shows : Shows mean e before after

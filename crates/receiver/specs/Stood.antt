@@ -11,8 +11,8 @@ abbrev pub Stood : {S : Type 0} → (S → Meaning) → Start → List Event →
 Stood mean s h r = Stands s h r.state (mean r.set)
 
 -- whatever it began with and was given before, it has then been given one call more
-abbrev pub Goes_on : {S : Type 0} → (S → Meaning) → Event → Receiver S → Receiver S → Type 0
-Goes_on mean e before after = (s : Start) (h : List Event) → Stood mean s h before → Stood mean s (h ++ e ∷ []) after
+abbrev pub GoesOn : {S : Type 0} → (S → Meaning) → Event → Receiver S → Receiver S → Type 0
+GoesOn mean e before after = (s : Start) (h : List Event) → Stood mean s h before → Stood mean s (h ++ e ∷ []) after
 
 -- and its set shows what these calls ask
 abbrev pub Shows : {S : Type 0} → (S → Meaning) → Event → Receiver S → Receiver S → Type 0

@@ -24,8 +24,8 @@ fn reads_same(a: &Picture<'_>, b: &Picture<'_>) -> bool
 
 // Changes of the set what is not yet as the next sheet asks, and touches nothing where all is.
 pub(crate) fn move_set<S: Set>(set: &mut S, from: &State, to: &State)
-    ensures after { Moves (meaning set.old) from.now to.now (meaning set.new) }
-    ensures same { pictured from.now.alert (meaning set.old).services from.now.home ≡ pictured to.now.alert (meaning set.old).services to.now.home → set.new ≡ set.old }
+    ensures after { Moves (S.meaning set.old) from.now to.now (S.meaning set.new) }
+    ensures same { pictured from.now.alert (S.meaning set.old).services from.now.home ≡ pictured to.now.alert (S.meaning set.old).services to.now.home → set.new ≡ set.old }
 {
     let old = decide_picture(set, &from.alert, from.home);
     let new = decide_picture(set, &to.alert, to.home);

@@ -4,7 +4,7 @@ ghost use Rattle.document.specs.Law.{DescriptorOrderDoesNotMatter};
 ghost use Rattle.history.specs.Histories.{Event, Start};
 ghost use Rattle.history.specs.Law.{Law, Determined};
 ghost use Rattle.history.specs.Replies.{event, Replies, Replied};
-ghost use Rattle.receiver.specs.Stood.{Stood, Goes_on};
+ghost use Rattle.receiver.specs.Stood.{Stood, GoesOn};
 ghost use Rattle.receiver.specs.Watched.{Watched};
 ghost use Rattle.calls.specs.declared.reply.Reply.{Reply};
 
@@ -24,8 +24,8 @@ pub trait Watch<S: Set> {
 
 // Makes one call, whichever it is.
 fn make_call<S: Set>(receiver: &mut Receiver<S>, call: Call<'_>) -> Reply
-    ensures stands { Goes_on meaning (event call.entry) receiver.old receiver.new }
-    ensures the_calls_before_determine_the_reply { (s : Start) (h : List Event) → Stood meaning s h receiver.old → Replies s h (event call.entry) result }
+    ensures stands { GoesOn S.meaning (event call.entry) receiver.old receiver.new }
+    ensures the_calls_before_determine_the_reply { (s : Start) (h : List Event) → Stood S.meaning s h receiver.old → Replies s h (event call.entry) result }
 {
     match call {
         Call::Section(bytes) => match receiver.section(bytes) {
@@ -50,10 +50,10 @@ pub fn carry_on<S: Set, W: Watch<S>>(
     replies: &mut [Reply],
     watcher: &mut W,
 )
-    ensures stands { (s : Start) (h : List Event) → Stood meaning s h receiver.old → Stood meaning s (h ++ map event calls.now) receiver.new }
-    ensures the_set_shows_what_the_calls_ask { (s : Start) (h : List Event) → Stood meaning s h receiver.old → Law s (h ++ map event calls.now) (meaning receiver.new.set) }
-    ensures the_calls_before_determine_each_reply { (s : Start) (h : List Event) → Stood meaning s h receiver.old → Replied s h (map event calls.now) replies.new }
-    ensures the_watcher_sees_each_call_with_its_reply { Watched sees (λ rs. (s : Start) (h : List Event) → Stood meaning s h receiver.old → Replied s h (map event calls.now) rs) (map event calls.now) watcher.old watcher.new }
+    ensures stands { (s : Start) (h : List Event) → Stood S.meaning s h receiver.old → Stood S.meaning s (h ++ map event calls.now) receiver.new }
+    ensures the_set_shows_what_the_calls_ask { (s : Start) (h : List Event) → Stood S.meaning s h receiver.old → Law s (h ++ map event calls.now) (S.meaning receiver.new.set) }
+    ensures the_calls_before_determine_each_reply { (s : Start) (h : List Event) → Stood S.meaning s h receiver.old → Replied s h (map event calls.now) replies.new }
+    ensures the_watcher_sees_each_call_with_its_reply { Watched W.sees (λ rs. (s : Start) (h : List Event) → Stood S.meaning s h receiver.old → Replied s h (map event calls.now) rs) (map event calls.now) watcher.old watcher.new }
     ensures rest { drop (length calls.now) replies.new ≡ drop (length calls.now) replies.old }
 {
     for i in 0..calls.len() {
@@ -75,10 +75,10 @@ pub fn rehearse<S: Set, W: Watch<S>>(
     replies: &mut [Reply],
     watcher: &mut W,
 ) -> Receiver<S>
-    ensures stands { Stood meaning (record { place = place; path = path; clock = clock; found = meaning set }) (map event calls.now) result }
-    ensures the_set_shows_what_the_calls_ask { Law (record { place = place; path = path; clock = clock; found = meaning set }) (map event calls.now) (meaning result.set) }
-    ensures the_calls_before_determine_each_reply { Replied (record { place = place; path = path; clock = clock; found = meaning set }) [] (map event calls.now) replies.new }
-    ensures the_watcher_sees_each_call_with_its_reply { Watched sees (λ rs. Replied (record { place = place; path = path; clock = clock; found = meaning set }) [] (map event calls.now) rs) (map event calls.now) watcher.old watcher.new }
+    ensures stands { Stood S.meaning (record { place = place; path = path; clock = clock; found = S.meaning set }) (map event calls.now) result }
+    ensures the_set_shows_what_the_calls_ask { Law (record { place = place; path = path; clock = clock; found = S.meaning set }) (map event calls.now) (S.meaning result.set) }
+    ensures the_calls_before_determine_each_reply { Replied (record { place = place; path = path; clock = clock; found = S.meaning set }) [] (map event calls.now) replies.new }
+    ensures the_watcher_sees_each_call_with_its_reply { Watched W.sees (λ rs. Replied (record { place = place; path = path; clock = clock; found = S.meaning set }) [] (map event calls.now) rs) (map event calls.now) watcher.old watcher.new }
     ensures the_calls_determine_the_set { Determined }
     ensures the_order_of_descriptors_does_not_matter { DescriptorOrderDoesNotMatter }
     ensures rest { drop (length calls.now) replies.new ≡ drop (length calls.now) replies.old }

@@ -3,7 +3,6 @@ use Rattle.std.specs.Prelude.{ℕ, cond, List, Some, None, codes, Option}
 use Rattle.std.specs.Str.{bytes_eq}
 use Rattle.station.specs.declared.service.Path.{Path}
 use Rattle.station.specs.declared.service.Path.TheVariants.{InBand, OutOfBand}
-use Rattle.station.specs.declared.service.Service.{Service}
 use Rattle.lines.specs.Decimal.{parsed}
 use Rattle.lines.specs.Keys.{after}
 use Rattle.script.specs.declared.asked.Asked.{Asked}

@@ -12,14 +12,14 @@ use sets::Set;
 impl<S: Set> Receiver<S> {
     // The viewer's service.
     pub fn home(&self) -> usize
-        ensures the_viewers_service { (s : Start) (h : List Event) → Stood meaning s h self.now → Home s h result }
+        ensures the_viewers_service { (s : Start) (h : List Event) → Stood S.meaning s h self.now → Home s h result }
     {
         self.state.home
     }
 
     // The event ID of the alert in force.
     pub fn event_in_force(&self) -> Option<EventId>
-        ensures of_the_alert_in_force { (s : Start) (h : List Event) → Stood meaning s h self.now → EventInForce s h result }
+        ensures of_the_alert_in_force { (s : Start) (h : List Event) → Stood S.meaning s h self.now → EventInForce s h result }
     {
         match &self.state.alert {
             Some(alert) => Some(alert.event_id),

@@ -11,7 +11,7 @@ use station::{Path, Place};
 
 // The picture's own sound and an empty caption.
 fn quiet<S: Set>(set: &mut S)
-    ensures after { meaning set.new ≡ plain (meaning set.old).services (meaning set.old).shown }
+    ensures after { S.meaning set.new ≡ plain (S.meaning set.old).services (S.meaning set.old).shown }
 {
     set.own();
     let _ = set.caption(&[]);
@@ -21,8 +21,8 @@ impl<S: Set> Receiver<S> {
     // Takes the set as it is found, gives it its own sound and an empty caption, and makes the service
     // shown the viewer's.
     pub fn begin(set: S, place: Place, path: Path, clock: u32) -> Receiver<S>
-        ensures stands { Stood meaning (record { place = place; path = path; clock = clock; found = meaning set }) [] result }
-        ensures the_set_shows_what_the_calls_ask { Law (record { place = place; path = path; clock = clock; found = meaning set }) [] (meaning result.set) }
+        ensures stands { Stood S.meaning (record { place = place; path = path; clock = clock; found = S.meaning set }) [] result }
+        ensures the_set_shows_what_the_calls_ask { Law (record { place = place; path = path; clock = clock; found = S.meaning set }) [] (S.meaning result.set) }
     {
         let mut set = set;
         quiet(&mut set);

@@ -2,7 +2,7 @@
 ghost use Rattle.std.specs.Prelude.{◌≡◌, List, OnErr};
 ghost use Rattle.history.specs.Histories.{Event, sent, told, chose, Start};
 ghost use Rattle.history.specs.Replies.{Answers, Reads, Chooses};
-ghost use Rattle.receiver.specs.Stood.{Stood, Goes_on, Shows, Spares};
+ghost use Rattle.receiver.specs.Stood.{Stood, GoesOn, Shows, Spares};
 
 use super::Receiver;
 use crate::judge::judge;
@@ -17,11 +17,11 @@ impl<S: Set> Receiver<S> {
     // A section comes. One that is refused or repeated changes nothing; a test and one for elsewhere enter
     // their sequence number; an alert in force replaces the one before it.
     pub fn section(&mut self, bytes: &[u8]) -> Result<Answer, SectionRefusal>
-        ensures stands { Goes_on meaning (sent bytes.now) self.old self.new }
-        ensures the_set_shows_what_the_calls_ask { Shows meaning (sent bytes.now) self.old self.new }
-        ensures the_calls_before_determine_the_answer { (s : Start) (h : List Event) → Stood meaning s h self.old → Answers s h bytes.now result }
+        ensures stands { GoesOn S.meaning (sent bytes.now) self.old self.new }
+        ensures the_set_shows_what_the_calls_ask { Shows S.meaning (sent bytes.now) self.old self.new }
+        ensures the_calls_before_determine_the_answer { (s : Start) (h : List Event) → Stood S.meaning s h self.old → Answers s h bytes.now result }
         ensures a_refusal_changes_nothing { OnErr result (self.new ≡ self.old) }
-        ensures a_set_that_shows_it_is_spared { Spares meaning (sent bytes.now) self.old self.new }
+        ensures a_set_that_shows_it_is_spared { Spares S.meaning (sent bytes.now) self.old self.new }
     {
         let section = Section::read(bytes);
         let judged = match judge(&self.state, &section) {
@@ -42,11 +42,11 @@ impl<S: Set> Receiver<S> {
 
     // The clock is told. An alert whose end is at or before the reading goes.
     pub fn reading(&mut self, seconds: u32) -> Result<(), ReadingRefusal>
-        ensures stands { Goes_on meaning (told seconds) self.old self.new }
-        ensures the_set_shows_what_the_calls_ask { Shows meaning (told seconds) self.old self.new }
-        ensures the_calls_before_determine_the_answer { (s : Start) (h : List Event) → Stood meaning s h self.old → Reads s h seconds result }
+        ensures stands { GoesOn S.meaning (told seconds) self.old self.new }
+        ensures the_set_shows_what_the_calls_ask { Shows S.meaning (told seconds) self.old self.new }
+        ensures the_calls_before_determine_the_answer { (s : Start) (h : List Event) → Stood S.meaning s h self.old → Reads s h seconds result }
         ensures a_refusal_changes_nothing { OnErr result (self.new ≡ self.old) }
-        ensures a_set_that_shows_it_is_spared { Spares meaning (told seconds) self.old self.new }
+        ensures a_set_that_shows_it_is_spared { Spares S.meaning (told seconds) self.old self.new }
     {
         match after_reading(&self.state, seconds) {
             Ok(next) => {
@@ -59,11 +59,11 @@ impl<S: Set> Receiver<S> {
 
     // The viewer chooses a service.
     pub fn choice(&mut self, number: usize) -> Result<(), ChoiceRefusal>
-        ensures stands { Goes_on meaning (chose number) self.old self.new }
-        ensures the_set_shows_what_the_calls_ask { Shows meaning (chose number) self.old self.new }
-        ensures the_calls_before_determine_the_answer { (s : Start) (h : List Event) → Stood meaning s h self.old → Chooses s number result }
+        ensures stands { GoesOn S.meaning (chose number) self.old self.new }
+        ensures the_set_shows_what_the_calls_ask { Shows S.meaning (chose number) self.old self.new }
+        ensures the_calls_before_determine_the_answer { (s : Start) (h : List Event) → Stood S.meaning s h self.old → Chooses s number result }
         ensures a_refusal_changes_nothing { OnErr result (self.new ≡ self.old) }
-        ensures a_set_that_shows_it_is_spared { Spares meaning (chose number) self.old self.new }
+        ensures a_set_that_shows_it_is_spared { Spares S.meaning (chose number) self.old self.new }
     {
         match after_choice(&self.state, self.set.count(), number) {
             Ok(next) => {

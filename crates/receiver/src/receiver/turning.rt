@@ -12,8 +12,8 @@ impl<S: Set> Receiver<S> {
     // Moves the set to what the next sheet asks, and keeps that sheet.
     pub(super) fn turn_to(&mut self, next: State)
         ensures state { self.new.state ≡ next }
-        ensures after { Moves (meaning self.old.set) self.old.state next (meaning self.new.set) }
-        ensures same { pictured self.old.state.alert (meaning self.old.set).services self.old.state.home ≡ pictured next.alert (meaning self.old.set).services next.home → self.new.set ≡ self.old.set }
+        ensures after { Moves (S.meaning self.old.set) self.old.state next (S.meaning self.new.set) }
+        ensures same { pictured self.old.state.alert (S.meaning self.old.set).services self.old.state.home ≡ pictured next.alert (S.meaning self.old.set).services next.home → self.new.set ≡ self.old.set }
     {
         move_set(&mut self.set, &self.state, &next);
         self.state = next;

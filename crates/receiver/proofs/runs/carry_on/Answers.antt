@@ -19,14 +19,14 @@ loop-i-preserved g c =
     let calls = c.args.calls.now in
     let events = map event calls in
     let l = c.loop-i-test.true in
-    let r = c.make-call-reply.result in
+    let r = c.make_call-reply.result in
     let old = c.loop-i.invariant in
     let new : (s : Start) (h : List Event) → Stood mean s h c.args.receiver.now → Replies s (h ++ take i events) (event_at events i) r =
-    λ s h x. subst (λ (e : Event). Replies s (h ++ take i events) e r) (sym (event_of i calls _ l)) (c.make-call-reply.ensures.the-calls-before-determine-the-reply s (h ++ take i events) (old.0 s h x)) in
+    λ s h x. subst (λ (e : Event). Replies s (h ++ take i events) e r) (sym (event_of i calls _ l)) (c.make_call-reply.ensures.the_calls_before_determine_the_reply s (h ++ take i events) (old.0 s h x)) in
     let seen = old.3 in
     let long = length_push seen.0 r in
     let n = seen.1 in (
-      λ s h x. subst (λ (z : List Event). Stood mean s z c.make-call-reply.new.receiver) (one_more h i calls _ l) (c.make-call-reply.ensures.stands s (h ++ take i events) (old.0 s h x)),
+      λ s h x. subst (λ (z : List Event). Stood mean s z c.make_call-reply.new.receiver) (one_more h i calls _ l) (c.make_call-reply.ensures.stands s (h ++ take i events) (old.0 s h x)),
       λ s h x. elim c.if-i-replies.branch [
         | then-i-replies w ↦ subst (λ (z : List Reply). Upto s h events z (i + 1)) (sym w.replies-is) (upto_set s h events c.loop-i.replies i r w.if-i-replies.true (old.1 s h x) (new s h x))
         | else-i-replies w ↦ subst (λ (z : List Reply). Upto s h events z (i + 1)) (sym w.replies-is) (upto_past s h events c.loop-i.replies i w.if-i-replies.false (old.1 s h x))
@@ -59,9 +59,9 @@ returns g c =
     λ s h x. subst (λ (z : List Event). Stood mean s z c.loop-i.receiver) (all_made h i calls left) (end.0 s h x) in
     record {
       stands = on;
-      the-set-shows-what-the-calls-ask = λ s h x. lawful_run s (h ++ events) c.loop-i.receiver.state (mean c.loop-i.receiver.set) (on s h x);
-      the-calls-before-determine-each-reply = λ s h x j a b. end.1 s h x j (omega arith) b;
-      the-watcher-sees-each-call-with-its-reply = record {
+      the_set_shows_what_the_calls_ask = λ s h x. lawful_run s (h ++ events) c.loop-i.receiver.state (mean c.loop-i.receiver.set) (on s h x);
+      the_calls_before_determine_each_reply = λ s h x j a b. end.1 s h x j (omega arith) b;
+      the_watcher_sees_each_call_with_its_reply = record {
         replies = end.3.0;
         one_each = omega arith;
         right = λ s h x j a b. end.3.2 s h x j (omega arith) b;

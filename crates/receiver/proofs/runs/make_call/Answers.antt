@@ -12,7 +12,7 @@ returns-in-Ok g c =
     let told-so = c.in-Ok.ensures in
     record {
       stands = made g.S.Set.meaning c.args.call (sent c.in-Section.bytes.now) is c.args.receiver.now c.section.new.self told-so.stands;
-      the-calls-before-determine-the-reply = replied g.S.Set.meaning c.args.call (sent c.in-Section.bytes.now) is c.args.receiver.now c.section.new.self (Answered c.in-Ok.answer) told-so.the-calls-before-determine-the-answer;
+      the_calls_before_determine_the_reply = replied g.S.Set.meaning c.args.call (sent c.in-Section.bytes.now) is c.args.receiver.now c.section.new.self (Answered c.in-Ok.answer) told-so.the_calls_before_determine_the_answer;
     }
 
 pub returns-in-Err : goal.returns-in-Err
@@ -21,7 +21,7 @@ returns-in-Err g c =
     let told-so = c.in-Err.ensures in
     record {
       stands = made g.S.Set.meaning c.args.call (sent c.in-Section.bytes.now) is c.args.receiver.now c.section.new.self told-so.stands;
-      the-calls-before-determine-the-reply = replied g.S.Set.meaning c.args.call (sent c.in-Section.bytes.now) is c.args.receiver.now c.section.new.self (Refused (OfSection c.in-Err.e)) told-so.the-calls-before-determine-the-answer;
+      the_calls_before_determine_the_reply = replied g.S.Set.meaning c.args.call (sent c.in-Section.bytes.now) is c.args.receiver.now c.section.new.self (Refused (OfSection c.in-Err.e)) told-so.the_calls_before_determine_the_answer;
     }
 
 pub returns-in-Ok-reading : goal.returns-in-Ok-reading
@@ -30,7 +30,7 @@ returns-in-Ok-reading g c =
     let told-so = c.in-Ok-reading.ensures in
     record {
       stands = made g.S.Set.meaning c.args.call (told c.in-Reading.seconds) is c.args.receiver.now c.reading.new.self told-so.stands;
-      the-calls-before-determine-the-reply = replied g.S.Set.meaning c.args.call (told c.in-Reading.seconds) is c.args.receiver.now c.reading.new.self (Granted) told-so.the-calls-before-determine-the-answer;
+      the_calls_before_determine_the_reply = replied g.S.Set.meaning c.args.call (told c.in-Reading.seconds) is c.args.receiver.now c.reading.new.self (Granted) told-so.the_calls_before_determine_the_answer;
     }
 
 pub returns-in-Err-reading : goal.returns-in-Err-reading
@@ -39,7 +39,7 @@ returns-in-Err-reading g c =
     let told-so = c.in-Err-reading.ensures in
     record {
       stands = made g.S.Set.meaning c.args.call (told c.in-Reading.seconds) is c.args.receiver.now c.reading.new.self told-so.stands;
-      the-calls-before-determine-the-reply = replied g.S.Set.meaning c.args.call (told c.in-Reading.seconds) is c.args.receiver.now c.reading.new.self (Refused (OfReading c.in-Err-reading.e)) told-so.the-calls-before-determine-the-answer;
+      the_calls_before_determine_the_reply = replied g.S.Set.meaning c.args.call (told c.in-Reading.seconds) is c.args.receiver.now c.reading.new.self (Refused (OfReading c.in-Err-reading.e)) told-so.the_calls_before_determine_the_answer;
     }
 
 pub returns-in-Ok-choice : goal.returns-in-Ok-choice
@@ -48,7 +48,7 @@ returns-in-Ok-choice g c =
     let told-so = c.in-Ok-choice.ensures in
     record {
       stands = made g.S.Set.meaning c.args.call (chose c.in-Choice.number) is c.args.receiver.now c.choice.new.self told-so.stands;
-      the-calls-before-determine-the-reply = replied g.S.Set.meaning c.args.call (chose c.in-Choice.number) is c.args.receiver.now c.choice.new.self (Granted) told-so.the-calls-before-determine-the-answer;
+      the_calls_before_determine_the_reply = replied g.S.Set.meaning c.args.call (chose c.in-Choice.number) is c.args.receiver.now c.choice.new.self (Granted) told-so.the_calls_before_determine_the_answer;
     }
 
 pub returns-in-Err-choice : goal.returns-in-Err-choice
@@ -57,5 +57,5 @@ returns-in-Err-choice g c =
     let told-so = c.in-Err-choice.ensures in
     record {
       stands = made g.S.Set.meaning c.args.call (chose c.in-Choice.number) is c.args.receiver.now c.choice.new.self told-so.stands;
-      the-calls-before-determine-the-reply = replied g.S.Set.meaning c.args.call (chose c.in-Choice.number) is c.args.receiver.now c.choice.new.self (Refused (OfChoice c.in-Err-choice.e)) told-so.the-calls-before-determine-the-answer;
+      the_calls_before_determine_the_reply = replied g.S.Set.meaning c.args.call (chose c.in-Choice.number) is c.args.receiver.now c.choice.new.self (Refused (OfChoice c.in-Err-choice.e)) told-so.the_calls_before_determine_the_answer;
     }

@@ -5,15 +5,15 @@ use Rattle.receiver.proofs.runs.rehearse.Goals as goal
 pub returns : goal.returns
 returns g c =
     let begun = c.begin-receiver.ensures.stands in
-    let on = c.carry-on.ensures in
+    let on = c.carry_on.ensures in
     record {
       stands = on.stands _ _ begun;
-      the-set-shows-what-the-calls-ask = on.the-set-shows-what-the-calls-ask _ _ begun;
-      the-calls-before-determine-each-reply = on.the-calls-before-determine-each-reply _ _ begun;
-      the-watcher-sees-each-call-with-its-reply =
-          let w = on.the-watcher-sees-each-call-with-its-reply in
-          record { replies = w.replies; one_each = w.one-each; right = w.right _ _ begun; shown = w.shown };
-      the-calls-determine-the-set = determined;
-      the-order-of-descriptors-does-not-matter = descriptor_order_does_not_matter;
+      the_set_shows_what_the_calls_ask = on.the_set_shows_what_the_calls_ask _ _ begun;
+      the_calls_before_determine_each_reply = on.the_calls_before_determine_each_reply _ _ begun;
+      the_watcher_sees_each_call_with_its_reply =
+          let w = on.the_watcher_sees_each_call_with_its_reply in
+          record { replies = w.replies; one_each = w.one_each; right = w.right _ _ begun; shown = w.shown };
+      the_calls_determine_the_set = determined;
+      the_order_of_descriptors_does_not_matter = descriptor_order_does_not_matter;
       rest = on.rest;
     }

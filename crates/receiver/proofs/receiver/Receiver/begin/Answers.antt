@@ -10,4 +10,4 @@ returns g c =
     let start : Start = record { place = c.args.place; path = c.args.path; clock = c.args.clock; found = found } in
     let plainly = c.quiet.ensures.after in
     let stands = begun start _ _ (g.S.Set.lawful c.args.set) refl refl refl (c.shown.ensures.value ∙ ap (λ (m : Meaning). m.shown) plainly) refl refl plainly in
-    record { stands = stands; the-set-shows-what-the-calls-ask = lawful_run _ _ _ _ stands }
+    record { stands = stands; the_set_shows_what_the_calls_ask = lawful_run _ _ _ _ stands }

@@ -15,25 +15,25 @@ returns-in-Err g c =
     let on = λ (s : Start) (h : List Event) (x : Stands s h before.state (mean before.set)). refused_choice s h before.state (mean before.set) x n past in
     record {
       stands = λ s h x. (on s h x).0;
-      the-set-shows-what-the-calls-ask = shows mean (chose n) before before before.state refl (λ s h x. (on s h x).0);
-      the-calls-before-determine-the-answer = λ s h x. (on s h x).1;
-      a-refusal-changes-nothing = refl;
-      a-set-that-shows-it-is-spared = λ s h x law. refl;
+      the_set_shows_what_the_calls_ask = shows mean (chose n) before before before.state refl (λ s h x. (on s h x).0);
+      the_calls_before_determine_the_answer = λ s h x. (on s h x).1;
+      a_refusal_changes_nothing = refl;
+      a_set_that_shows_it_is_spared = λ s h x law. refl;
     }
 
 pub returns-in-Ok : goal.returns-in-Ok
 returns-in-Ok g c =
     let mean = g.S.Set.meaning in
     let before = c.args.self.now in
-    let after = c.turn-to.new.self in
+    let after = c.turn_to.new.self in
     let n = c.args.number in
     let next = c.in-Ok.next in
     let inside = subst (λ (k : ℕ). Selects before.state k n (Ok next)) c.count.ensures.value c.in-Ok.ensures.cases in
-    let on = λ (s : Start) (h : List Event) (x : Stands s h before.state (mean before.set)). granted_choice s h before.state (mean before.set) x n next (mean after.set) inside c.turn-to.ensures.after in
+    let on = λ (s : Start) (h : List Event) (x : Stands s h before.state (mean before.set)). granted_choice s h before.state (mean before.set) x n next (mean after.set) inside c.turn_to.ensures.after in
     record {
-      stands = goes_on mean (chose n) before after next c.turn-to.ensures.state (λ s h x. (on s h x).0);
-      the-set-shows-what-the-calls-ask = shows mean (chose n) before after next c.turn-to.ensures.state (λ s h x. (on s h x).0);
-      the-calls-before-determine-the-answer = λ s h x. (on s h x).1;
-      a-refusal-changes-nothing = tt;
-      a-set-that-shows-it-is-spared = spares mean (chose n) before after next c.turn-to.ensures.state (λ s h x. (on s h x).0) c.turn-to.ensures.same;
+      stands = goes_on mean (chose n) before after next c.turn_to.ensures.state (λ s h x. (on s h x).0);
+      the_set_shows_what_the_calls_ask = shows mean (chose n) before after next c.turn_to.ensures.state (λ s h x. (on s h x).0);
+      the_calls_before_determine_the_answer = λ s h x. (on s h x).1;
+      a_refusal_changes_nothing = tt;
+      a_set_that_shows_it_is_spared = spares mean (chose n) before after next c.turn_to.ensures.state (λ s h x. (on s h x).0) c.turn_to.ensures.same;
     }
