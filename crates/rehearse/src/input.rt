@@ -22,13 +22,13 @@ pub struct Input {
 }
 
 impl Input {
-    pub fn new(rt: &HostRuntime) -> Input {
-        Input {
-            reader: BufReader::new(rt.stdin()),
+    pub fn new(rt: &HostRuntime) -> io::Result<Input> {
+        Ok(Input {
+            reader: BufReader::new(rt.alloc(), rt.stdin())?,
             line: LineBuffer::new(rt.alloc(), MOST),
             number: 0,
             room: [0; ROOM],
-        }
+        })
     }
 
     // What the next line asks for; none at the end of the script. Before a read that may wait, all answers are out.

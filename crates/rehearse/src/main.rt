@@ -19,8 +19,8 @@ use setup::Setup;
 use std::io;
 
 fn run(rt: &HostRuntime) -> io::Result<()> {
-    let mut input = Input::new(rt);
-    let mut output = Output::new(rt);
+    let mut input = Input::new(rt)?;
+    let mut output = Output::new(rt)?;
     let mut setup = Setup::new(rt.alloc());
     let Some(first) = setup.take_lines(&mut input, &mut output)? else {
         return output.flush();

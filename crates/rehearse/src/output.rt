@@ -10,11 +10,11 @@ pub struct Output {
 }
 
 impl Output {
-    pub fn new(rt: &HostRuntime) -> Output {
-        Output {
-            writer: BufWriter::new(rt.stdout()),
+    pub fn new(rt: &HostRuntime) -> io::Result<Output> {
+        Ok(Output {
+            writer: BufWriter::new(rt.alloc(), rt.stdout())?,
             printer: Printer::new(rt.alloc()),
-        }
+        })
     }
 
     // Writes what was printed.

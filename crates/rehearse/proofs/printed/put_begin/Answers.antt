@@ -5,4 +5,4 @@ use Rattle.rehearse.proofs.printed.put_begin.Goals as goal
 
 pub returns : goal.returns
 returns c =
-    joined (codes "call=begin") (state_of c.args.shown.now) _ _ _ _ c.in-ok-text.ensures c.put-state.ensures
+    joined (codes "call=begin") (state_of c.args.shown.now) _ _ _ _ c.in_ok-text.ensures c.put_state.ensures

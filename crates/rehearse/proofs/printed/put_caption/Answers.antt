@@ -5,6 +5,6 @@ use Rattle.rehearse.proofs.printed.put_caption.Goals as goal
 pub returns : goal.returns
 returns c =
     let caption = c.args.caption.now in
-    joined (codes " caption=") (caption ++ codes "\n") _ _ _ _ c.in-ok-text.ensures
+    joined (codes " caption=") (caption ++ codes "\n") _ _ _ _ c.in_ok-text.ensures
     (ended caption (codes "\n") (vec_items c.text.new.self.held) (vec_items c.text-2.new.self.held) c.text-3.result (vec_items c.text-3.new.self.held)
-    c.in-ok-text-2.ensures c.text-3.ensures)
+    c.in_ok-text-2.ensures c.text-3.ensures)

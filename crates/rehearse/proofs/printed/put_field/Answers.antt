@@ -5,4 +5,4 @@ use Rattle.rehearse.proofs.printed.put_field.Goals as goal
 pub returns : goal.returns
 returns c =
     ended c.args.key.now (decimal c.args.number) (vec_items c.args.out.now.held) (vec_items c.text.new.self.held) c.number.result (vec_items c.number.new.self.held)
-    c.in-ok-text.ensures c.number.ensures
+    c.in_ok-text.ensures c.number.ensures

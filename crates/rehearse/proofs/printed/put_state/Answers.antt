@@ -10,7 +10,7 @@ returns c =
     let alert = alert_of shown.alert in
     let sound = sound_of shown.sound in
     let screen = field (codes " screen=") shown.screen in
-    joined (field (codes " home=") shown.home) (screen ++ (sound ++ (alert ++ caption))) _ _ _ _ c.in-ok-put-field.ensures
-    (joined screen (sound ++ (alert ++ caption)) _ _ _ _ c.in-ok-put-field-2.ensures
-    (joined sound (alert ++ caption) _ _ _ _ c.in-ok-put-sound.ensures
-    (joined alert caption _ _ _ _ c.in-ok-put-alert.ensures c.put-caption.ensures)))
+    joined (field (codes " home=") shown.home) (screen ++ (sound ++ (alert ++ caption))) _ _ _ _ c.in_ok-put_field.ensures
+    (joined screen (sound ++ (alert ++ caption)) _ _ _ _ c.in_ok-put_field-2.ensures
+    (joined sound (alert ++ caption) _ _ _ _ c.in_ok-put_sound.ensures
+    (joined alert caption _ _ _ _ c.in_ok-put_alert.ensures c.put_caption.ensures)))
