@@ -25,7 +25,7 @@ impl<'a> Section<'a> {
     }
 }
 
-mod entries;
+mod naming;
 mod numbers;
 mod questions;
 mod texts;
