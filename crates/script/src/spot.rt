@@ -17,9 +17,13 @@ impl Spot {
     pub fn place(self) -> Result<Place, PlaceRefusal>
         ensures cases { MatchResult result (λ p. (ranged self.state self.county self.part ≡ true) × (p.state ≡ self.state) × (p.county ≡ self.county) × (p.part ≡ self.part)) (λ e. (ranged self.state self.county self.part ≡ false) × (e ≡ Range)) }
     {
-        if self.state > 99 || self.county > 999 || self.part > 9 {
+        let (Ok(state), Ok(county), Ok(part)) = (
+            u8::try_from(self.state),
+            u16::try_from(self.county),
+            u8::try_from(self.part),
+        ) else {
             return Err(PlaceRefusal::Range);
-        }
-        Place::new(self.state as u8, self.county as u16, self.part as u8)
+        };
+        Place::new(state, county, part)
     }
 }
