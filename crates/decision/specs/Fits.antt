@@ -5,6 +5,8 @@ use Rattle.section.specs.declared.refusal.SectionRefusal.{SectionRefusal}
 use Rattle.sets.specs.declared.refusal.SetRefusal.{SetRefusal}
 use Rattle.sets.specs.Meaning.{Meaning, apart_at}
 use Rattle.decision.specs.declared.alert.Alert.{Alert}
+use Rattle.decision.specs.declared.picture.Picture.{Picture}
+use Rattle.decision.specs.Drives.{Pictures, Drives}
 use Rattle.decision.specs.Pictures.{pictured}
 
 abbrev pub Listed : List Service → Option ℕ → Type 0
@@ -33,3 +35,7 @@ KeptFits ss (Err e) = Unit {0}
 abbrev pub Presents : {U : Type 0} → Meaning → Option Alert → ℕ → Result U SetRefusal → Meaning → Type 0
 Presents before o home (Ok u) after = after ≡ pictured o before.services home
 Presents before o home (Err e) after = (after ≡ before) × (home < length before.services → AllFits before.services o → ⊥)
+
+-- the set was brought to a picture with the meaning that the alert asks for, or refused by what stands against that picture
+abbrev pub BroughtTo : {U : Type 0} → Meaning → Option Alert → ℕ → Result U SetRefusal → Meaning → Type 0
+BroughtTo before o home r after = (p : Picture) × Pictures p (pictured o before.services home) × Drives before p r after

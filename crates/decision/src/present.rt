@@ -1,6 +1,6 @@
 // The decision and the driver together.
 ghost use Rattle.std.specs.Prelude.{◌≡◌};
-ghost use Rattle.decision.specs.Fits.{Presents};
+ghost use Rattle.decision.specs.Fits.{Presents, BroughtTo};
 ghost use Rattle.decision.specs.Sentences.{TheSentencesSayThePicture};
 
 use super::alert::Alert;
@@ -14,7 +14,8 @@ pub fn present_alert<S: Set>(
     alert: &Option<Alert>,
     home: usize,
 ) -> Result<(), SetRefusal>
-    ensures { Presents (S.meaning set.old) alert.now home result (S.meaning set.new) }
+    ensures cases { Presents (S.meaning set.old) alert.now home result (S.meaning set.new) }
+    ensures refused_as_its_picture { BroughtTo (S.meaning set.old) alert.now home result (S.meaning set.new) }
 {
     let picture = decide_picture(set, alert, home);
     drive_set(set, &picture)
@@ -22,7 +23,8 @@ pub fn present_alert<S: Set>(
 
 // The picture's definition and its three sentences say the same.
 pub fn picture_stands() -> u8
-    ensures { TheSentencesSayThePicture }
+    ensures stands { TheSentencesSayThePicture }
+    ensures value { result ≡ 0 }
 {
     0
 }
