@@ -31,6 +31,8 @@ impl ReadingRefusal {
     }
 }
 
+// By hand, as are the two below: the Display that the kit's `thiserror` derives has no `output`, so the words would be
+// promised nowhere.
 impl fmt::Display for ReadingRefusal {
     ghost output = { λ e. Some (reading_words e) };
 

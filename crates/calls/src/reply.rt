@@ -1,9 +1,11 @@
 // What a call is given back.
 ghost use Rattle.std.specs.Prelude.{◌≡◌};
 ghost use Rattle.calls.specs.Numbers.{reply_number, reply_entry};
+ghost use Rattle.calls.specs.Replying.{of_section, of_reading, of_choice};
 
 use super::answer::Answer;
-use super::refusal::CallRefusal;
+use super::refusal::{CallRefusal, ChoiceRefusal, ReadingRefusal};
+use section::SectionRefusal;
 
 #[derive(Clone, Copy)]
 pub enum Reply {
@@ -12,6 +14,39 @@ pub enum Reply {
     // to a reading or a choice
     Granted,
     Refused(CallRefusal),
+}
+
+impl From<Result<Answer, SectionRefusal>> for Reply {
+    ghost from_gives = { λ given reply. reply ≡ of_section given };
+
+    fn from(given: Result<Answer, SectionRefusal>) -> Reply {
+        match given {
+            Ok(answer) => Reply::Answered(answer),
+            Err(e) => Reply::Refused(CallRefusal::Section(e)),
+        }
+    }
+}
+
+impl From<Result<(), ReadingRefusal>> for Reply {
+    ghost from_gives = { λ given reply. reply ≡ of_reading given };
+
+    fn from(given: Result<(), ReadingRefusal>) -> Reply {
+        match given {
+            Ok(()) => Reply::Granted,
+            Err(e) => Reply::Refused(CallRefusal::Reading(e)),
+        }
+    }
+}
+
+impl From<Result<(), ChoiceRefusal>> for Reply {
+    ghost from_gives = { λ given reply. reply ≡ of_choice given };
+
+    fn from(given: Result<(), ChoiceRefusal>) -> Reply {
+        match given {
+            Ok(()) => Reply::Granted,
+            Err(e) => Reply::Refused(CallRefusal::Choice(e)),
+        }
+    }
 }
 
 impl Reply {

@@ -1,9 +1,10 @@
 -- A register as its four bytes, and each through a table of its own. Assumes nothing.
-use Rattle.std.proofs.Common.{◌≡◌, ℕ, ◌+◌, ◌*◌, ◌/◌, ◌%◌, ◌^◌, ◌<◌, ◌≤◌, List, map, length, get_or, take, fold, sym, refl, ap, ◌∙◌, arith}
+use Rattle.std.proofs.Common.{◌≡◌, ℕ, ◌+◌, ◌*◌, ◌/◌, ◌%◌, ◌^◌, ◌<◌, ◌≤◌, List, map, length, get_or, take, take_all, drop, fold, sym, refl, ap, ◌∙◌, arith}
 use lib.Bits.{bit_xor, xor_assoc, xor_lt, xor_shifted}
 use Rattle.std.specs.List.{range_with_len}
 use Rattle.std.proofs.lemmas.List.FromFn.{get_or-map-range_with_len}
-use Rattle.std.proofs.lemmas.List.Sums.{fold_more}
+use Rattle.std.proofs.lemmas.List.{take-append-drop}
+use Rattle.std.proofs.lemmas.List.Sums.{fold_more, fold-append}
 use Rattle.checkword.specs.Register.{moves, entered}
 use Rattle.checkword.proofs.Steps.{moves_xor, moves_low, moves_lt}
 use Rattle.checkword.proofs.Four.{moves_add, four}
@@ -102,32 +103,33 @@ by_words r a b c d e f g h l ha hb hc hd he hf hg hh =
     ∙ by_word (moves 32 x) e f g h m he hf hg hh
     ∙ ap (λ t. entered (entered (entered (entered t e) f) g) h) (by_word r a b c d l ha hb hc hd)
 
--- the register after the first i bytes
-abbrev pub upto : List ℕ → ℕ → ℕ
-upto bs i = fold entered 0xFFFFFFFF (take i bs)
+-- the register r after the first i bytes
+abbrev pub upto : ℕ → List ℕ → ℕ → ℕ
+upto r bs i = fold entered r (take i bs)
 
-pub one_more : (bs : List ℕ) (i j : ℕ) → i < length bs → j ≡ i + 1 → upto bs j ≡ entered (upto bs i) (get_or bs i 0)
-one_more bs i j h e = ap (upto bs) e ∙ fold_more entered 0xFFFFFFFF bs i 0 h
+one_more : (r : ℕ) (bs : List ℕ) (i j : ℕ) → i < length bs → j ≡ i + 1 → upto r bs j ≡ entered (upto r bs i) (get_or bs i 0)
+one_more r bs i j h e = ap (upto r bs) e ∙ fold_more entered r bs i 0 h
 
-pub four_more : (bs : List ℕ) (i j : ℕ) → i + 4 ≤ length bs → j ≡ i + 4
-    → upto bs j ≡ entered (entered (entered (entered (upto bs i) (get_or bs i 0)) (get_or bs (i + 1) 0)) (get_or bs (i + 2) 0)) (get_or bs (i + 3) 0)
-four_more bs i j h e =
+four_more : (r : ℕ) (bs : List ℕ) (i j : ℕ) → i + 4 ≤ length bs → j ≡ i + 4
+    → upto r bs j ≡ entered (entered (entered (entered (upto r bs i) (get_or bs i 0)) (get_or bs (i + 1) 0)) (get_or bs (i + 2) 0)) (get_or bs (i + 3) 0)
+four_more r bs i j h e =
     let b = λ (k : ℕ). get_or bs k 0 in
-    one_more bs (i + 3) j (omega arith) (omega arith)
+    one_more r bs (i + 3) j (omega arith) (omega arith)
     ∙ ap (λ t. entered t (b (i + 3)))
-    (one_more bs (i + 2) (i + 3) (omega arith) (omega arith)
+    (one_more r bs (i + 2) (i + 3) (omega arith) (omega arith)
     ∙ ap (λ t. entered t (b (i + 2)))
-    (one_more bs (i + 1) (i + 2) (omega arith) (omega arith) ∙ ap (λ t. entered t (b (i + 1))) (one_more bs i (i + 1) (omega arith) (omega arith))))
+    (one_more r bs (i + 1) (i + 2) (omega arith) (omega arith) ∙ ap (λ t. entered t (b (i + 1))) (one_more r bs i (i + 1) (omega arith) (omega arith))))
 
-pub eight_more : (bs : List ℕ) (i j : ℕ) → i + 8 ≤ length bs → j ≡ i + 8
-    → upto bs j ≡ entered (entered (entered (entered (entered (entered (entered (entered (upto bs i) (get_or bs i 0)) (get_or bs (i + 1) 0)) (get_or bs (i + 2) 0)) (get_or bs (i + 3) 0)) (get_or bs (i + 4) 0)) (get_or bs (i + 5) 0)) (get_or bs (i + 6) 0)) (get_or bs (i + 7) 0)
-eight_more bs i j h e =
+-- eight bytes one by one
+pub eight : (r : ℕ) (bs : List ℕ) → length bs ≡ 8
+    → entered (entered (entered (entered (entered (entered (entered (entered r (get_or bs 0 0)) (get_or bs 1 0)) (get_or bs 2 0)) (get_or bs 3 0)) (get_or bs 4 0)) (get_or bs 5 0)) (get_or bs 6 0)) (get_or bs 7 0)
+    ≡ fold entered r bs
+eight r bs h =
     let b = λ (k : ℕ). get_or bs k 0 in
-    one_more bs (i + 7) j (omega arith) (omega arith)
-    ∙ ap (λ t. entered t (b (i + 7)))
-    (one_more bs (i + 6) (i + 7) (omega arith) (omega arith)
-    ∙ ap (λ t. entered t (b (i + 6)))
-    (one_more bs (i + 5) (i + 6) (omega arith) (omega arith)
-    ∙ ap (λ t. entered t (b (i + 5)))
-    (one_more bs (i + 4) (i + 5) (omega arith) (omega arith)
-    ∙ ap (λ t. entered t (b (i + 4))) (four_more bs i (i + 4) (omega arith) (omega arith)))))
+    sym (four_more r bs 4 8 (omega arith) (omega arith)
+    ∙ ap (λ t. entered (entered (entered (entered t (b 4)) (b 5)) (b 6)) (b 7)) (four_more r bs 0 4 (omega arith) (omega arith)))
+    ∙ ap (fold entered r) (take_all 8 bs (omega arith))
+
+-- those at the front, and then the others
+pub on : (r : ℕ) (bs front back : List ℕ) → front ≡ take 8 bs → back ≡ drop 8 bs → fold entered (fold entered r front) back ≡ fold entered r bs
+on r bs front back f b = (λ i. fold entered (fold entered r (f i)) (b i)) ∙ sym (fold-append entered r (take 8 bs) (drop 8 bs)) ∙ ap (fold entered r) (take-append-drop 8 bs)

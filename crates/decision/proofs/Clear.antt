@@ -40,7 +40,7 @@ clear ss p m w h =
     ∙ ap (λ b. cond b None (Some CaptionTooLong)) (le-leb (length m.caption) 1024 h.short)
 
 said_short : (t : Text) → length (said t) ≤ 1024
-said_short t = omega (arith, length-take t.len t.bytes, t.within)
+said_short t = omega (arith, length-take t.bytes.len t.bytes.bytes, t.bytes.within)
 
 heard_from : (ss : List Service) (o : Option ℕ) → Apart ss o → unheard ss (sound_from o) ≡ None
 heard_from ss None h = refl

@@ -8,17 +8,15 @@ use super::judge::{applies_to, service_for, sound_from};
 use super::picture::Picture;
 use sets::{Set, Sound};
 
-// The picture under the alert in force, if any, for a viewer of the service.
+// The picture under the alert in force, if any, for a viewer of the service. The option is lent whole: for an
+// `Option<&Alert>` the clause would first have to turn an option of references into one of alerts.
 pub fn decide_picture<'a, S: Set>(set: &S, alert: &'a Option<Alert>, home: usize) -> Picture<'a>
     ensures { Pictures result (pictured alert.now (S.meaning set.now).services home) }
 {
-    let Some(alert) = alert else {
-        return plain(home);
-    };
-    if !applies_to(set, alert, home) {
-        return plain(home);
+    match alert {
+        Some(alert) if applies_to(set, alert, home) => alerted(alert, home),
+        _ => plain(home),
     }
-    alerted(alert, home)
 }
 
 // Under an alert that applies.

@@ -1,46 +1,39 @@
 // Brings a set to a picture.
-ghost use Rattle.std.specs.Prelude.{◌≡◌, ◌<◌, None};
+ghost use Rattle.std.specs.Prelude.{◌≡◌, ◌<◌, Some, None, MatchResult};
 ghost use Rattle.sets.specs.Meaning.{count_of, tuned};
 ghost use Rattle.decision.specs.Drives.{unheard, obstacle, heard, showing, Drives};
 
 use super::picture::Picture;
 use sets::{Set, SetRefusal, Sound};
 
-// Why the set cannot sound so.
-fn unheard_by<S: Set>(set: &S, sound: Sound) -> Option<SetRefusal>
-    ensures { result ≡ unheard (S.meaning set.now).services sound }
+// Whether the set can sound so.
+fn check_sound<S: Set>(set: &S, sound: Sound) -> Result<(), SetRefusal>
+    ensures { MatchResult result (λ _. unheard (S.meaning set.now).services sound ≡ None) (λ e. unheard (S.meaning set.now).services sound ≡ Some e) }
 {
-    match sound {
-        Sound::Own => None,
-        Sound::Borrowed(k) => {
-            if k >= set.count() {
-                return Some(SetRefusal::PastTheList);
-            }
-            match set.service(k) {
-                Some(service) if service.apart => None,
-                _ => Some(SetRefusal::NotApart),
-            }
-        }
+    let Sound::Borrowed(k) = sound else {
+        return Ok(());
+    };
+    if k >= set.count() {
+        return Err(SetRefusal::PastTheList);
     }
+    if !set.service(k).is_some_and(|service| service.apart) {
+        return Err(SetRefusal::NotApart);
+    }
+    Ok(())
 }
 
-// Why the set cannot show the picture.
-fn obstacle_to<S: Set>(set: &S, picture: &Picture<'_>) -> Option<SetRefusal>
-    ensures { result ≡ obstacle (S.meaning set.now).services picture.now }
+// Whether the set can show the picture.
+fn check_picture<S: Set>(set: &S, picture: &Picture<'_>) -> Result<(), SetRefusal>
+    ensures { MatchResult result (λ _. obstacle (S.meaning set.now).services picture.now ≡ None) (λ e. obstacle (S.meaning set.now).services picture.now ≡ Some e) }
 {
     if picture.service >= set.count() {
-        return Some(SetRefusal::PastTheList);
+        return Err(SetRefusal::PastTheList);
     }
-    match unheard_by(set, picture.sound) {
-        Some(e) => Some(e),
-        None => {
-            if picture.caption.len() > 1024 {
-                Some(SetRefusal::CaptionTooLong)
-            } else {
-                None
-            }
-        }
+    check_sound(set, picture.sound)?;
+    if picture.caption.len() > 1024 {
+        return Err(SetRefusal::CaptionTooLong);
     }
+    Ok(())
 }
 
 // The service with its own sound. The set is asked first what it shows: a tuner that is told to tune
@@ -81,11 +74,7 @@ fn show<S: Set>(set: &mut S, picture: &Picture<'_>)
 pub fn drive_set<S: Set>(set: &mut S, picture: &Picture<'_>) -> Result<(), SetRefusal>
     ensures { Drives (S.meaning set.old) picture.now result (S.meaning set.new) }
 {
-    match obstacle_to(set, picture) {
-        Some(e) => Err(e),
-        None => {
-            show(set, picture);
-            Ok(())
-        }
-    }
+    check_picture(set, picture)?;
+    show(set, picture);
+    Ok(())
 }

@@ -1,7 +1,7 @@
 // Whether an alert applies, and what it shows and sounds.
 ghost use Rattle.std.specs.Prelude.{◌≡◌, ℕ, ◌≤◌, false, slice_index_or};
 ghost use Rattle.sets.specs.Meaning.{service_at};
-ghost use Rattle.decision.specs.Pictures.{applies, applies_to, between, is_paid, is_controlled, shown_by, sound_from, service_for};
+ghost use Rattle.decision.specs.Pictures.{applies, applies_to, shown_by, sound_from, service_for};
 
 use super::alert::{Alert, Excepted};
 use sets::{Set, Sound};
@@ -12,35 +12,7 @@ impl Excepted {
     pub fn holds(&self, number: usize) -> bool
         ensures { result ≡ slice_index_or self.now.marks number false }
     {
-        if number < 256 {
-            self.marks[number]
-        } else {
-            false
-        }
-    }
-}
-
-fn is_between(low: u8, high: u8, n: u8) -> bool
-    ensures { result ≡ between low high n }
-{
-    low <= n && n <= high
-}
-
-fn is_paid(service: Option<Service>) -> bool
-    ensures { result ≡ is_paid service }
-{
-    match service {
-        Some(service) => service.paid,
-        None => false,
-    }
-}
-
-fn is_controlled(service: Option<Service>) -> bool
-    ensures { result ≡ is_controlled service }
-{
-    match service {
-        Some(service) => service.controlled,
-        None => false,
+        self.marks.get(number).copied().unwrap_or(false)
     }
 }
 
@@ -48,8 +20,8 @@ fn is_controlled(service: Option<Service>) -> bool
 fn does_apply(excepted: bool, priority: u8, service: Option<Service>) -> bool
     ensures { result ≡ applies excepted priority service }
 {
-    let bought = is_paid(service) && is_between(4, 7, priority);
-    let locked = is_controlled(service) && is_between(1, 3, priority);
+    let bought = service.is_some_and(|service| service.paid) && (4..=7).contains(&priority);
+    let locked = service.is_some_and(|service| service.controlled) && (1..=3).contains(&priority);
     !excepted && !bought && !locked
 }
 
@@ -69,7 +41,7 @@ pub(crate) fn service_for(alert: &Alert, home: usize) -> usize
     ensures { result ≡ service_for alert.now home alert.now.sound }
 {
     match (alert.sound, alert.details) {
-        (None, Some(k)) if is_between(12, 15, alert.priority.0) => k,
+        (None, Some(k)) if (12..=15).contains(&alert.priority.0) => k,
         _ => home,
     }
 }
@@ -77,8 +49,5 @@ pub(crate) fn service_for(alert: &Alert, home: usize) -> usize
 pub(crate) fn sound_from(sound: Option<usize>) -> Sound
     ensures { result ≡ sound_from sound }
 {
-    match sound {
-        Some(k) => Sound::Borrowed(k),
-        None => Sound::Own,
-    }
+    sound.map_or(Sound::Own, Sound::Borrowed)
 }

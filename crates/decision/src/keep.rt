@@ -33,10 +33,7 @@ fn is_excepted(
 {
     match service {
         Some(service) => section.excepts(&Tuned { service, path }),
-        None => match section.refusal() {
-            Some(e) => Err(e),
-            None => Ok(false),
-        },
+        None => section.refusal().map_or(Ok(false), Err),
     }
 }
 
@@ -49,12 +46,8 @@ fn excepted_by<S: Set>(
     ensures { MatchResult result (λ x. (k : ℕ) → k < 256 → Marked section.now.bytes.now path (service_at (S.meaning set.now).services k) (slice_index_or x.marks k false)) (λ e. refusal section.now.bytes.now ≡ Some e) }
 {
     let mut marks = [false; 256];
-    for k in 0..256usize {
-        let mark = match is_excepted(section, path, set.service(k)) {
-            Ok(mark) => mark,
-            Err(e) => return Err(e),
-        };
-        marks[k] = mark;
+    for (k, mark) in marks.iter_mut().enumerate() {
+        *mark = is_excepted(section, path, set.service(k))?;
     }
     Ok(Excepted { marks })
 }
@@ -69,18 +62,9 @@ pub fn keep_alert<S: Set>(
     ensures cases { Kept section.now.bytes.now (S.meaning set.now).services path clock result }
     ensures fits { KeptFits (S.meaning set.now).services result }
 {
-    let fields = match section.fields() {
-        Ok(fields) => fields,
-        Err(e) => return Err(e),
-    };
-    let text = match section.text() {
-        Ok(text) => text,
-        Err(e) => return Err(e),
-    };
-    let excepted = match excepted_by(section, set, path) {
-        Ok(excepted) => excepted,
-        Err(e) => return Err(e),
-    };
+    let fields = section.fields()?;
+    let text = section.text()?;
+    let excepted = excepted_by(section, set, path)?;
     let details = details_service(set, path, &fields);
     Ok(Alert {
         event_id: fields.event_id,

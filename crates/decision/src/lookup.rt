@@ -11,13 +11,10 @@ use station::Path;
 pub fn first_named<S: Set>(set: &S, name: Name) -> Option<usize>
     ensures { result ≡ first_of (bears name) (S.meaning set.now).services }
 {
-    for k in 0..set.count() {
-        if is_named(set.service(k), name) {
-            return Some(k);
-        }
-    }
-    None
+    (0..set.count()).find(|k| is_named(set.service(*k), name))
 }
+
+// The set, the path and the fields are not one struct: callers, who have them apart, would have to make it.
 
 // The details service: in-band by its channel pair, out-of-band by its source ID.
 pub fn details_service<S: Set>(set: &S, path: Path, fields: &Fields) -> Option<usize>
@@ -33,9 +30,7 @@ pub fn details_service<S: Set>(set: &S, path: Path, fields: &Fields) -> Option<u
 fn if_apart<S: Set>(set: &S, number: Option<usize>) -> Option<usize>
     ensures { result ≡ if_apart (S.meaning set.now).services number }
 {
-    let k = number?;
-    let service = set.service(k)?;
-    if service.apart { Some(k) } else { None }
+    number.filter(|k| set.service(*k).is_some_and(|service| service.apart))
 }
 
 // Out-of-band, the audio service if it is apart.
@@ -60,8 +55,5 @@ pub fn borrowable_sound<S: Set>(
 ) -> Option<usize>
     ensures { result ≡ sound_by path fields.now (S.meaning set.now).services details }
 {
-    match audio_service(set, path, fields) {
-        Some(k) => Some(k),
-        None => if_apart(set, details),
-    }
+    audio_service(set, path, fields).or(if_apart(set, details))
 }

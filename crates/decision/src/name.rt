@@ -10,29 +10,19 @@ pub enum Name {
     Source(SourceId),
 }
 
-fn has_channel(service: &Service, pair: ChannelPair) -> bool
-    ensures { result ≡ bearsName (Name.Channel pair) service.now }
+// Whether the service has the name.
+fn bears(service: Service, name: Name) -> bool
+    ensures { result ≡ bearsName name service }
 {
-    let none = pair.major == 0 && pair.minor == 0;
-    let same = service.channel.major == pair.major && service.channel.minor == pair.minor;
-    !none && same
-}
-
-fn has_source(service: &Service, id: SourceId) -> bool
-    ensures { result ≡ bearsName (Name.Source id) service.now }
-{
-    id.0 != 0 && service.source.0 == id.0
+    match name {
+        Name::Channel(pair) => pair.names(service.channel),
+        Name::Source(id) => id.names(service.source),
+    }
 }
 
 // Whether there is a service and it has the name.
 pub(crate) fn is_named(service: Option<Service>, name: Name) -> bool
     ensures { result ≡ holds (bearsName name) service }
 {
-    match service {
-        Some(service) => match name {
-            Name::Channel(pair) => has_channel(&service, pair),
-            Name::Source(id) => has_source(&service, id),
-        },
-        None => false,
-    }
+    service.is_some_and(|service| bears(service, name))
 }

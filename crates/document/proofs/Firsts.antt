@@ -1,5 +1,6 @@
 -- A document has just one first placeholder, or none. Assumes nothing.
-use Rattle.std.proofs.Common.{◌≡◌, ℕ, zero, suc, ◌<◌, ◌⊎◌, List, length, take, drop, Some, None, Option, refl, ap, subst, inl, inr, arith}
+use Rattle.std.specs.Option.{MatchOption}
+use Rattle.std.proofs.Common.{◌≡◌, ℕ, zero, suc, ◌+◌, ◌<◌, ◌≤◌, IfSome, ◌⊎◌, List, length, take, drop, Some, None, Option, refl, ap, subst, inl, inr, arith}
 use Rattle.std.proofs.lemmas.Slice.Eq.{bytes_eq-Decides}
 use Rattle.std.proofs.lemmas.Bool.{cases_Bool, cases_lt, cases_order, both_ways}
 use Rattle.std.specs.Str.{bytes_eq}
@@ -41,3 +42,13 @@ seek doc (suc n) =
 pub first_of : (doc : List ℕ) → (p : Option ℕ) × First doc p
 unfolding NoneBelow
 first_of doc = elim (seek doc (length doc)) [ inl none ↦ (None, none) | inr found ↦ (Some found.0, found.1) ]
+
+-- what holds of the place found, and of those before it, makes it the first
+pub first_found : (doc : List ℕ) (a b : ℕ) (r : Option ℕ) → a ≡ 0 → b ≡ length doc
+    → MatchOption r ((k : ℕ) → a ≤ k → k < b → Stands doc k → ⊥) (λ i. (a ≤ i) × (i < b) × Stands doc i × ((k : ℕ) → a ≤ k → k < i → Stands doc k → ⊥)) → First doc r
+first_found doc a b None x y h = λ k lt. h k (omega arith) (omega arith)
+first_found doc a b (Some i) x y h = (h.2, λ k lt. h.3 k (omega arith) lt)
+
+pub found_within : (doc : List ℕ) (r : Option ℕ) → First doc r → IfSome r (λ i. i + 23 ≤ length doc)
+found_within doc None h = tt
+found_within doc (Some i) h = stands_within doc i h.0

@@ -1,12 +1,13 @@
 pub mod Escapes
-pub mod Walks
 pub mod Bags
-pub mod Tables
 pub mod Bindings
-pub mod Documents
 pub mod Layings
 pub mod Orders
 pub mod Rearrangements
 pub mod Firsts
 pub mod Deliveries
 pub mod Holdings
+pub mod Walks
+pub mod Tables
+pub mod Bounds
+pub mod Documents

@@ -1,5 +1,5 @@
 -- The fragments of metadata descriptors, as a bag in which each is found by its number. Assumes nothing.
-use Rattle.std.specs.Prelude.{◌≡◌, ℕ, zero, suc, ◌+◌, ◌-◌, ◌≤◌, Bool, false, cond, not, ◌&&◌, ◌||◌, List, [], ◌∷◌, ◌++◌, length, take, drop, ◌==◌, nat_lt, slice_index}
+use Rattle.std.specs.Prelude.{ℕ, zero, suc, ◌-◌, Bool, false, cond, not, ◌&&◌, ◌||◌, List, [], ◌∷◌, ◌++◌, length, drop, ◌==◌, nat_lt, slice_index}
 use Rattle.document.specs.Descriptors.{Descriptor}
 
 -- a fragment: its number and its bytes
@@ -47,19 +47,7 @@ abbrev pub missing : (ℕ → ℕ) → ℕ → Bool
 missing f zero = false
 missing f (suc n) = f (suc n) == 0 || missing f n
 
--- what the numbers from 1 on have, summed up and one after another
-abbrev pub summed : (ℕ → ℕ) → ℕ → ℕ
-summed f zero = 0
-summed f (suc n) = summed f n + f (suc n)
-
+-- what the numbers from 1 on have, one after another
 abbrev pub chained : (ℕ → List ℕ) → ℕ → List ℕ
 chained f zero = []
 chained f (suc n) = chained f n ++ f (suc n)
-
--- the bytes of a part of the area
-abbrev pub piece : List ℕ → ℕ → ℕ → List ℕ
-piece bytes start len = take len (drop start bytes)
-
--- a part of the area is the fragment with a number, and has no bytes if there is none
-abbrev pub Places : List ℕ → List Fragment → ℕ → ℕ → ℕ → Type 0
-Places bytes fs k start len = (start + len ≤ length bytes) × (piece bytes start len ≡ lookup k fs) × ((len == 0) ≡ (tally k fs == 0))

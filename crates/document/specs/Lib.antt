@@ -5,6 +5,7 @@ pub mod Filling
 pub mod Descriptors
 pub mod Fragments
 pub mod Document
+pub mod Tables
 pub mod Gathers
 pub mod Rearranging
 pub mod Handing

@@ -1,65 +1,69 @@
 // What a gathering lacks, and its fragments bound together in rising number.
-ghost use Rattle.std.specs.Prelude.{◌≡◌, ℕ, ◌+◌, ◌≤◌, ◌++◌, length, get_or, drop};
-ghost use Rattle.document.specs.Document.{fault as firstFault};
-ghost use Rattle.document.specs.Fragments.{missing, summed, chained, piece};
+ghost use Rattle.std.specs.Prelude.{◌≡◌, ◌+◌, ◌*◌, ◌≤◌, ◌++◌, List, length, drop, sum_by};
+ghost use Rattle.std.specs.List.{list_all};
+ghost use Rattle.std.specs.Option.{is_some};
+ghost use Rattle.document.specs.Descriptors.{Descriptor};
+ghost use Rattle.document.specs.Tables.{Tabled, Binds, placed_bytes, pieces};
 
 use crate::escape::put;
 use crate::refusal::DocumentRefusal;
 use crate::slots::Gathering;
 
-impl Gathering {
-    // Whether one of the numbers 1 to the count of fragments was not met.
-    fn has_gap(&self) -> bool
-        ensures value { result ≡ missing (λ k. (get_or self.now.slots k (record { start = 0; len = 0 })).len) self.now.count }
-    {
-        for k in 0..self.count as usize {
-            if self.slot(k + 1).len == 0 {
-                return true;
-            }
-        }
-        false
-    }
-
-    // The first test that the fragments fail.
-    pub(crate) fn fault(&self) -> Option<DocumentRefusal>
-        ensures value { result ≡ firstFault self.now.broken self.now.count self.now.twice (missing (λ k. (get_or self.now.slots k (record { start = 0; len = 0 })).len) self.now.count) }
+impl<'a> Gathering<'a> {
+    // The fragments in rising number, or the first test that they fail.
+    pub(crate) fn bound(&self) -> Result<&[Option<&'a [u8]>], DocumentRefusal>
+        ensures binds { (ds : List Descriptor) → Tabled ds self.now → Binds ds result }
     {
         if self.broken {
-            Some(DocumentRefusal::Broken)
-        } else if self.count == 0 {
-            Some(DocumentRefusal::Missing)
-        } else if self.twice {
-            Some(DocumentRefusal::Twice)
-        } else if self.has_gap() {
-            Some(DocumentRefusal::Gap)
+            return Err(DocumentRefusal::Broken);
+        }
+        if self.count == 0 {
+            return Err(DocumentRefusal::Missing);
+        }
+        if self.twice {
+            return Err(DocumentRefusal::Twice);
+        }
+        let fragments = self
+            .fragments
+            .get(1..=usize::from(self.count))
+            .ok_or(DocumentRefusal::Gap)?;
+        if is_full(fragments) {
+            Ok(fragments)
         } else {
-            None
+            Err(DocumentRefusal::Gap)
         }
     }
+}
 
-    // How many bytes the fragments have together.
-    pub(crate) fn total(&self) -> usize
-        ensures value { result ≡ summed (λ k. (get_or self.now.slots k (record { start = 0; len = 0 })).len) self.now.count }
-    {
-        let mut sum: usize = 0;
-        for k in 0..self.count as usize {
-            sum += self.slot(k + 1).len as usize;
-        }
-        sum
-    }
+// Whether a fragment stands at each place.
+fn is_full(places: &[Option<&[u8]>]) -> bool
+    ensures value { result ≡ list_all is_some places.now }
+{
+    places.iter().all(|place| place.is_some())
+}
 
-    // Writes the fragments in rising number to the front of `work`.
-    pub(crate) fn write(&self, area: &[u8], work: &mut [u8])
-        requires within { (k : ℕ) → (get_or self.now.slots k (record { start = 0; len = 0 })).start + (get_or self.now.slots k (record { start = 0; len = 0 })).len ≤ length area.now }
-        requires room { summed (λ k. (get_or self.now.slots k (record { start = 0; len = 0 })).len) self.now.count ≤ length work.old }
-        ensures after { work.new ≡ chained (λ k. piece area.now (get_or self.now.slots k (record { start = 0; len = 0 })).start (get_or self.now.slots k (record { start = 0; len = 0 })).len) self.now.count ++ drop (summed (λ k. (get_or self.now.slots k (record { start = 0; len = 0 })).len) self.now.count) work.old }
-    {
-        let mut done: usize = 0;
-        for k in 0..self.count as usize {
-            let slot = self.slot(k + 1);
-            let from = slot.start as usize;
-            let end = from + slot.len as usize;
-            done = put(work, done, &area[from..end]);
-        }
+// The bytes at a place of the table.
+fn bytes_at<'a>(place: &Option<&'a [u8]>) -> &'a [u8]
+    ensures value { result.now ≡ placed_bytes place.now }
+{
+    place.unwrap_or(&[])
+}
+
+// How many bytes the fragments have together.
+pub(crate) fn total(fragments: &[Option<&[u8]>]) -> usize
+    requires { sum_by (λ p. length (placed_bytes p)) fragments.now ≤ 65535 }
+    ensures value { result ≡ length (pieces fragments.now) }
+{
+    fragments.iter().map(|place| bytes_at(place).len()).sum()
+}
+
+// Writes the fragments, one after another, to the front of `work`.
+pub(crate) fn write(fragments: &[Option<&[u8]>], work: &mut [u8])
+    requires { length (pieces fragments.now) ≤ length work.old }
+    ensures after { work.new ≡ pieces fragments.now ++ drop (length (pieces fragments.now)) work.old }
+{
+    let mut done: usize = 0;
+    for place in fragments {
+        done = put(work, done, bytes_at(place));
     }
 }

@@ -19,16 +19,8 @@ pub fn deliver<'a>(
     ensures after { work.new ≡ worked (section_document section.now.bytes.now) work.old }
     ensures order_of_descriptors_does_not_matter { (t : List ℕ) → Rearranged section.now.bytes.now t → Delivers t words.now (length work.old) (length out.old) (as_bytes result) }
 {
-    let gathered = match gather(section, work) {
-        Ok(gathered) => gathered,
-        Err(e) => return Err(DeliveryRefusal::Gather(e)),
-    };
-    let filled = match fill(gathered, work, words, out) {
-        Ok(filled) => filled,
-        Err(unfilled) => return Err(DeliveryRefusal::Fill(unfilled.refusal)),
-    };
-    match hand_out(&filled, out) {
-        Ok(document) => Ok(document),
-        Err(e) => Err(DeliveryRefusal::HandOut(e)),
-    }
+    let gathered = gather(section, work)?;
+    let filled = fill(gathered, work, words, out)?;
+    let document = hand_out(&filled, out)?;
+    Ok(document)
 }

@@ -2,15 +2,17 @@
 ghost use Rattle.std.specs.Prelude.{◌≡◌, ◌+◌, ◌*◌, ◌≤◌, ◌++◌, length, take, drop};
 ghost use Rattle.document.specs.Escaping.{escape as escapeOf, escaped};
 
-// How many bytes a byte of the words becomes.
-fn escaped_size(byte: u8) -> usize
-    ensures value { result ≡ length (escaped byte) }
-    ensures bound { result ≤ 5 }
+use std::slice;
+
+// A byte of the words as it stands in a document.
+fn escaped(byte: &u8) -> &[u8]
+    ensures value { result.now ≡ escaped byte.now }
 {
-    match byte as char {
-        '&' => 5,
-        '<' | '>' => 4,
-        _ => 1,
+    match byte {
+        b'&' => b"&amp;",
+        b'<' => b"&lt;",
+        b'>' => b"&gt;",
+        _ => slice::from_ref(byte),
     }
 }
 
@@ -20,14 +22,11 @@ pub(crate) fn escaped_len(words: &[u8]) -> usize
     ensures value { result ≡ length (escapeOf words.now) }
     ensures bound { result ≤ 5 * length words.now }
 {
-    let mut sum: usize = 0;
-    for byte in words {
-        sum += escaped_size(*byte);
-    }
-    sum
+    words.iter().map(|byte| escaped(byte).len()).sum()
 }
 
-// Writes a part from `at` on, and answers where it ends.
+// Writes a part from `at` on, and answers where it ends. The place is a number beside the buffer: a struct
+// that held both would have to promise in each method that it still holds the same buffer.
 pub(crate) fn put(out: &mut [u8], at: usize, part: &[u8]) -> usize
     requires { at + length part.now ≤ length out.old }
     ensures value { result ≡ at + length part.now }
@@ -38,38 +37,14 @@ pub(crate) fn put(out: &mut [u8], at: usize, part: &[u8]) -> usize
     end
 }
 
-// Writes a byte of the words, escaped, from `at` on, and answers where it ends.
-fn put_byte(out: &mut [u8], at: usize, byte: u8) -> usize
-    requires { at + length (escaped byte) ≤ length out.old }
-    ensures value { result ≡ at + length (escaped byte) }
-    ensures after { out.new ≡ take at out.old ++ (escaped byte ++ drop (at + length (escaped byte)) out.old) }
-{
-    match byte as char {
-        '&' => put(out, at, b"&amp;"),
-        '<' => put(out, at, b"&lt;"),
-        '>' => put(out, at, b"&gt;"),
-        _ => put(out, at, &[byte]),
-    }
-}
-
-// Writes the words, escaped, to the front of `out`.
-fn put_front(out: &mut [u8], words: &[u8]) -> usize
-    requires { length (escapeOf words.now) ≤ length out.old }
-    ensures value { result ≡ length (escapeOf words.now) }
-    ensures after { out.new ≡ escapeOf words.now ++ drop (length (escapeOf words.now)) out.old }
-{
-    let mut at: usize = 0;
-    for byte in words {
-        at = put_byte(out, at, *byte);
-    }
-    at
-}
-
 // Writes the words, escaped, from `at` on, and answers where they end.
-pub(crate) fn put_escaped(out: &mut [u8], at: usize, words: &[u8]) -> usize
+pub(crate) fn put_escaped(out: &mut [u8], mut at: usize, words: &[u8]) -> usize
     requires { at + length (escapeOf words.now) ≤ length out.old }
     ensures value { result ≡ at + length (escapeOf words.now) }
     ensures after { out.new ≡ take at out.old ++ (escapeOf words.now ++ drop (at + length (escapeOf words.now)) out.old) }
 {
-    at + put_front(&mut out[at..], words)
+    for byte in words {
+        at = put(out, at, escaped(byte));
+    }
+    at
 }

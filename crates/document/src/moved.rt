@@ -1,4 +1,6 @@
-// Documents as values that are moved: each is the length of what stands at the front of a lent buffer.
+// Documents as values that are moved: each is the length of what stands at the front of a lent buffer, since
+// no heap is asked for.
+// Two types for the two states, so that only a gathered document is filled, and only a filled one handed out.
 use crate::unfilled::FillRefusal;
 
 // A document that was gathered into a work buffer. It is neither copied nor cloned, so it is filled once.

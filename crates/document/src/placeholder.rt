@@ -12,8 +12,7 @@ fn stands(document: &[u8], at: usize) -> bool
     requires { at ≤ length document.now }
     ensures value { Decides result (Stands document.now at) }
 {
-    let rest = &document[at..];
-    rest.starts_with(PLACEHOLDER)
+    document[at..].starts_with(PLACEHOLDER)
 }
 
 // The first place where the placeholder stands.
@@ -21,12 +20,7 @@ fn find(document: &[u8]) -> Option<usize>
     ensures value { First document.now result }
     ensures bound { IfSome result (λ i. i + 23 ≤ length document.now) }
 {
-    for at in 0..document.len() {
-        if stands(document, at) {
-            return Some(at);
-        }
-    }
-    None
+    (0..document.len()).find(|at| stands(document, *at))
 }
 
 // Writes the document with the words, escaped, after the eleven bytes of the opening tag at `at`.
@@ -35,10 +29,10 @@ fn put_filled(out: &mut [u8], document: &[u8], at: usize, words: &[u8])
     requires room { length document.now + length (escapeOf words.now) ≤ length out.old }
     ensures after { out.new ≡ (take (at + 11) document.now ++ (escapeOf words.now ++ drop (at + 11) document.now)) ++ drop (length document.now + length (escapeOf words.now)) out.old }
 {
-    let cut = at + 11;
-    let here = put(out, 0, &document[0..cut]);
+    let (opened, rest) = document.split_at(at + 11);
+    let here = put(out, 0, opened);
     let there = put_escaped(out, here, words);
-    let _ = put(out, there, &document[cut..]);
+    put(out, there, rest);
 }
 
 // Writes the document with the words in its first placeholder, if it fits; answers how long it is then.

@@ -1,6 +1,7 @@
 // Why a document is not gathered.
 ghost use Rattle.std.specs.Prelude.{◌≡◌, Some};
 ghost use Rattle.document.specs.Refusals.{number as number_of, words as words_of};
+ghost use Rattle.document.specs.declared.refusal.DocumentRefusal.TheVariants.{Section};
 
 use section::SectionRefusal;
 use std::fmt;
@@ -21,6 +22,14 @@ pub enum DocumentRefusal {
     Gap,
     // the work buffer is shorter than the document
     Short,
+}
+
+impl From<SectionRefusal> for DocumentRefusal {
+    ghost from_gives = { λ e r. r ≡ Section e };
+
+    fn from(refusal: SectionRefusal) -> DocumentRefusal {
+        DocumentRefusal::Section(refusal)
+    }
 }
 
 impl DocumentRefusal {
@@ -54,6 +63,7 @@ impl DocumentRefusal {
     }
 }
 
+// By hand: the Display that the kit's `thiserror` derives has no `output`, so the words would be promised nowhere.
 impl fmt::Display for DocumentRefusal {
     ghost output = { λ e. Some (words_of e) };
 

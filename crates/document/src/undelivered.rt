@@ -1,7 +1,9 @@
 // Why a document is not delivered, and by which of the three calls.
 ghost use Rattle.std.specs.Prelude.{◌≡◌, Some};
 ghost use Rattle.document.specs.Refusals.{delivery_number, delivery_words, call_of};
+ghost use Rattle.document.specs.declared.undelivered.DeliveryRefusal.TheVariants.{Gather, Fill, HandOut};
 
+use crate::moved::Unfilled;
 use crate::refusal::DocumentRefusal;
 use crate::unfilled::FillRefusal;
 use crate::withheld::HandOutRefusal;
@@ -15,6 +17,30 @@ pub enum DeliveryRefusal {
     Fill(FillRefusal),
     // it is not handed out
     HandOut(HandOutRefusal),
+}
+
+impl From<DocumentRefusal> for DeliveryRefusal {
+    ghost from_gives = { λ e r. r ≡ Gather e };
+
+    fn from(refusal: DocumentRefusal) -> DeliveryRefusal {
+        DeliveryRefusal::Gather(refusal)
+    }
+}
+
+impl From<Unfilled> for DeliveryRefusal {
+    ghost from_gives = { λ u r. r ≡ Fill u.refusal };
+
+    fn from(unfilled: Unfilled) -> DeliveryRefusal {
+        DeliveryRefusal::Fill(unfilled.refusal)
+    }
+}
+
+impl From<HandOutRefusal> for DeliveryRefusal {
+    ghost from_gives = { λ e r. r ≡ HandOut e };
+
+    fn from(refusal: HandOutRefusal) -> DeliveryRefusal {
+        DeliveryRefusal::HandOut(refusal)
+    }
 }
 
 impl DeliveryRefusal {
@@ -51,6 +77,7 @@ impl DeliveryRefusal {
     }
 }
 
+// By hand: the Display that the kit's `thiserror` derives has no `output`, so the words would be promised nowhere.
 impl fmt::Display for DeliveryRefusal {
     ghost output = { λ e. Some (delivery_words e) };
 

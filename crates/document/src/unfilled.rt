@@ -33,6 +33,7 @@ impl FillRefusal {
     }
 }
 
+// By hand: the Display that the kit's `thiserror` derives has no `output`, so the words would be promised nowhere.
 impl fmt::Display for FillRefusal {
     ghost output = { λ e. Some (fill_words e) };
 

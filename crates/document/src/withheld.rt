@@ -4,6 +4,7 @@ ghost use Rattle.document.specs.Refusals.{hand_out_number, hand_out_words};
 
 use std::fmt;
 
+// Each of the three calls has refusals of its own, so that none is answered that the call cannot give.
 #[derive(Clone, Copy)]
 pub enum HandOutRefusal {
     // the buffer is shorter than the filled document
@@ -29,6 +30,7 @@ impl HandOutRefusal {
     }
 }
 
+// By hand: the Display that the kit's `thiserror` derives has no `output`, so the words would be promised nowhere.
 impl fmt::Display for HandOutRefusal {
     ghost output = { λ e. Some (hand_out_words e) };
 

@@ -38,10 +38,9 @@ fn check_values<W: Write + Drop>(tally: &mut Tally<W>) -> io::Result<()> {
 
 fn try_example<W: Write + Drop>(tally: &mut Tally<W>, e: Example) -> io::Result<()> {
     let section = Section::read(e.section);
-    let refusal = match section.refusal() {
-        Some(refusal) => u32::from(refusal.number()),
-        None => 0,
-    };
+    let refusal = section
+        .refusal()
+        .map_or(0, |refusal| u32::from(refusal.number()));
     tally.number(e.name, 0, refusal)?;
     if let Ok(fields) = section.fields() {
         tally.number("  event ID", e.event_id, u32::from(fields.event_id.0))?;

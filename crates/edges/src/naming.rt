@@ -17,29 +17,29 @@ fn service(source: u16, major: u16, minor: u16) -> Service {
     }
 }
 
+// As it is printed: 1 for what is named, 0 for what is not, else the number of a refusal.
+fn code(named: Result<bool, u8>) -> u32 {
+    named.map_or_else(u32::from, u32::from)
+}
+
 // 0 for a place that is made, else the number of its refusal.
 fn refusal_of(state: u8, county: u16, part: u8) -> u32 {
-    match Place::new(state, county, part) {
-        Ok(_) => 0,
-        Err(refusal) => u32::from(refusal.number()),
-    }
+    code(
+        Place::new(state, county, part)
+            .map(|_| false)
+            .map_err(|refusal| refusal.number()),
+    )
 }
 
-// 1 for an entry that names the place, 0 for none, else the number of a refusal.
 fn named(entries: &[u8], state: u8, county: u16, part: u8) -> u32 {
-    match Place::new(state, county, part) {
-        Ok(place) => u32::from(naming_location(entries, &place).is_some()),
-        Err(refusal) => u32::from(refusal.number()),
-    }
+    code(
+        Place::new(state, county, part)
+            .map(|place| naming_location(entries, &place).is_some())
+            .map_err(|refusal| refusal.number()),
+    )
 }
 
-fn in_band(entries: &[u8], service: Service) -> u32 {
-    let path = Path::InBand;
-    u32::from(excepts(entries, &Tuned { service, path }))
-}
-
-fn out_of_band(entries: &[u8], service: Service) -> u32 {
-    let path = Path::OutOfBand;
+fn excepted(entries: &[u8], service: Service, path: Path) -> u32 {
     u32::from(excepts(entries, &Tuned { service, path }))
 }
 
@@ -99,35 +99,39 @@ fn channels<W: Write + Drop>(tally: &mut Tally<W>) -> io::Result<()> {
     tally.number(
         "FF FC 0C FC 01 names 12-1 in-band",
         1,
-        in_band(&entry, both),
+        excepted(&entry, both, Path::InBand),
     )?;
     tally.number(
         "FF FC 0C FC 01 names 12-1 out-of-band",
         0,
-        out_of_band(&entry, both),
+        excepted(&entry, both, Path::OutOfBand),
     )?;
     tally.number(
         "FF FC 0C FC 01 names 1-12 in-band",
         0,
-        in_band(&entry, service(0, 1, 12)),
+        excepted(&entry, service(0, 1, 12), Path::InBand),
     )?;
     tally.number(
         "FF FC 0C FC 01 names no pair",
         0,
-        in_band(&entry, service(5, 0, 0)),
+        excepted(&entry, service(5, 0, 0), Path::InBand),
     )?;
     let none = [0xFF, 0xFC, 0x00, 0xFC, 0x00];
     tally.number(
         "FF FC 00 FC 00 names no pair",
         0,
-        in_band(&none, service(5, 0, 0)),
+        excepted(&none, service(5, 0, 0), Path::InBand),
     )?;
-    tally.number("FF FC 00 FC 00 names 12-1", 0, in_band(&none, both))?;
+    tally.number(
+        "FF FC 00 FC 00 names 12-1",
+        0,
+        excepted(&none, both, Path::InBand),
+    )?;
     let zero = [0x80, 0x00, 0x00, 0x00, 0x05];
     tally.number(
         "80 00 00 00 05 names 0-5 in-band",
         1,
-        in_band(&zero, service(0, 0, 5)),
+        excepted(&zero, service(0, 0, 5), Path::InBand),
     )
 }
 
@@ -137,49 +141,55 @@ fn sources<W: Write + Drop>(tally: &mut Tally<W>) -> io::Result<()> {
     tally.number(
         "7F FF FF 01 00 names 256 out-of-band",
         1,
-        out_of_band(&entry, both),
+        excepted(&entry, both, Path::OutOfBand),
     )?;
-    tally.number("7F FF FF 01 00 names 256 in-band", 0, in_band(&entry, both))?;
+    tally.number(
+        "7F FF FF 01 00 names 256 in-band",
+        0,
+        excepted(&entry, both, Path::InBand),
+    )?;
     tally.number(
         "7F FF FF 01 00 names 1",
         0,
-        out_of_band(&entry, service(1, 12, 1)),
+        excepted(&entry, service(1, 12, 1), Path::OutOfBand),
     )?;
     tally.number(
         "7F FF FF 01 00 names no source",
         0,
-        out_of_band(&entry, service(0, 12, 1)),
+        excepted(&entry, service(0, 12, 1), Path::OutOfBand),
     )?;
     let none = [0x7F, 0xFF, 0xFF, 0x00, 0x00];
     tally.number(
         "7F FF FF 00 00 names no source",
         0,
-        out_of_band(&none, service(0, 12, 1)),
+        excepted(&none, service(0, 12, 1), Path::OutOfBand),
     )?;
     tally.number(
         "7F FF FF 01 names 256",
         0,
-        out_of_band(&[0x7F, 0xFF, 0xFF, 0x01], both),
+        excepted(&[0x7F, 0xFF, 0xFF, 0x01], both, Path::OutOfBand),
     )
 }
 
-// 1 where the section names the place, 0 where it does not, else the number of a refusal.
 fn named_by(bytes: &[u8], state: u8, county: u16, part: u8) -> u32 {
-    let place = match Place::new(state, county, part) {
-        Ok(place) => place,
-        Err(refusal) => return u32::from(refusal.number()),
-    };
-    match Section::read(bytes).naming_location(&place) {
-        Ok(entry) => u32::from(entry.is_some()),
-        Err(refusal) => u32::from(refusal.number()),
-    }
+    code(
+        Place::new(state, county, part)
+            .map_err(|refusal| refusal.number())
+            .and_then(|place| {
+                Section::read(bytes)
+                    .naming_location(&place)
+                    .map(|entry| entry.is_some())
+                    .map_err(|refusal| refusal.number())
+            }),
+    )
 }
 
 fn excepted_by(bytes: &[u8], tuned: &Tuned) -> u32 {
-    match Section::read(bytes).excepts(tuned) {
-        Ok(named) => u32::from(named),
-        Err(refusal) => u32::from(refusal.number()),
-    }
+    code(
+        Section::read(bytes)
+            .excepts(tuned)
+            .map_err(|refusal| refusal.number()),
+    )
 }
 
 fn sections<W: Write + Drop>(tally: &mut Tally<W>) -> io::Result<()> {

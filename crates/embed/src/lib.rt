@@ -15,13 +15,12 @@ pub extern "C" fn kinvouzel_check_word(bytes: &[u8]) -> u32
     checkword::check_word(bytes)
 }
 
-// The number of the rule that a section breaks first, or 0.
+// The number of the rule that a section breaks first, or 0: C has none of our enums.
 #[unsafe(no_mangle)]
 pub extern "C" fn kinvouzel_section_refusal(bytes: &[u8]) -> u32
     ensures { result ≡ number_of (refusal bytes.now) }
 {
-    match Section::read(bytes).refusal() {
-        Some(refusal) => u32::from(refusal.number()),
-        None => 0,
-    }
+    Section::read(bytes)
+        .refusal()
+        .map_or(0, |refusal| u32::from(refusal.number()))
 }

@@ -20,14 +20,17 @@ location_of e = record { state = state_of e; part = part_of e; county = county_o
 abbrev pub agree : ℕ → ℕ → Bool
 agree a b = a == 0 || (b == 0 || a == b)
 
--- state 0 names every place, county 0 every place of the state
+-- state 0 covers every place, county 0 every place of the state
+abbrev pub covers : Location → Place → Bool
+covers l p =
+    (l.state == 0)
+    || (l.state == p.state
+    && (l.county == 0
+    || (l.county == p.county
+    && agree l.part p.part)))
+
 abbrev pub names_place : List ℕ → Place → Bool
-names_place e p =
-    (state_of e == 0)
-    || (state_of e == p.state
-    && (county_of e == 0
-    || (county_of e == p.county
-    && agree (part_of e) p.part)))
+names_place e p = covers (location_of e) p
 
 -- the number of a location entry that names the place
 abbrev pub NamingLocation : List ℕ → Place → Option ℕ → Type 0

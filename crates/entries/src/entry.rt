@@ -25,16 +25,7 @@ pub trait Entry {
 pub fn search<E: Entry>(entries: &[u8], thing: &E::Thing) -> Option<usize>
     ensures cases { Finds E.width E.named entries.now thing.now result }
 {
-    let size = E::size();
-    let mut k = 0;
-    let mut rest = entries;
-    while rest.len() >= size {
-        let (entry, after) = rest.split_at(size);
-        if E::names(entry, thing) {
-            return Some(k);
-        }
-        rest = after;
-        k += 1;
-    }
-    None
+    entries
+        .chunks_exact(E::size())
+        .position(|entry| E::names(entry, thing))
 }

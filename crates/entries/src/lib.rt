@@ -2,7 +2,6 @@
 #![tactic(auto)]
 
 mod asking;
-mod bytes;
 mod entry;
 mod exceptions;
 mod locations;

@@ -1,14 +1,14 @@
 // Location entries.
 ghost use Rattle.std.specs.Prelude.{◌≡◌};
-ghost use Rattle.entries.specs.Locations.{location_of, names_place};
+ghost use Rattle.entries.specs.Locations.{covers, location_of, names_place};
 ghost use Rattle.entries.specs.Widths.{three_bytes};
 
-use super::bytes::{byte_at, ten_bits};
 use super::entry::Entry;
+use octets::{byte_at, ten_bits};
 use station::Place;
 
 // What a location entry states; 0 stands for all states, all counties, all parts.
-#[derive(Clone, Copy)]
+#[derive(Clone, Copy, PartialEq, Eq, Debug)]
 pub struct Location {
     pub state: u8,
     pub part: u8,
@@ -32,6 +32,17 @@ impl Location {
             county: ten_bits(entry, 1),
         }
     }
+
+    // Parts agree where they are equal or where either is 0.
+    fn names(self, place: &Place) -> bool
+        ensures value { result ≡ covers self place.now }
+    {
+        self.state == 0
+            || self.state == place.state
+                && (self.county == 0
+                    || self.county == place.county
+                        && (self.part == 0 || place.part == 0 || self.part == place.part))
+    }
 }
 
 impl Entry for Location {
@@ -48,17 +59,6 @@ impl Entry for Location {
     }
 
     fn names(entry: &[u8], place: &Place) -> bool {
-        let location = Location::of(entry);
-        if location.state == 0 {
-            return true;
-        }
-        if location.state != place.state {
-            return false;
-        }
-        if location.county == 0 {
-            return true;
-        }
-        location.county == place.county
-            && (location.part == 0 || place.part == 0 || location.part == place.part)
+        Location::of(entry).names(place)
     }
 }

@@ -1,8 +1,9 @@
 -- Laws of hexadecimal text: one digit more, and one pair more. Assumes nothing.
-use Rattle.std.proofs.Common.{◌≡◌, ℕ, zero, suc, ◌+◌, ◌*◌, ◌/◌, ◌%◌, ◌<◌, true, cond, ◌&&◌, ltb, List, [], ◌∷◌, ◌++◌, length, get_or, take, drop, set, sym, refl, ap, ◌∙◌, append_assoc, arith, take-add}
+use Rattle.std.proofs.Common.{◌≡◌, ℕ, zero, suc, ◌+◌, ◌*◌, ◌/◌, ◌%◌, ◌<◌, true, cond, ◌&&◌, ltb, List, [], ◌∷◌, ◌++◌, length, get_or, take, drop, set, fold, sym, refl, ap, ◌∙◌, append_assoc, arith, take-add}
 use mathlib.Core.Bool.{and_assoc, and-true}
 use lib.Bits.{bit_or, or_lt, or_add_and, and_le_l, and_le_r}
-use Rattle.std.proofs.lemmas.List.{take_more, drop_more, set_at, length-take-le}
+use Rattle.std.proofs.lemmas.List.{drop-drop, drop_more, set_at, length-take-le}
+use Rattle.std.specs.Simd.{first_chunks}
 use Rattle.std.proofs.lemmas.Bool.{and_parts}
 use Rattle.std.proofs.lemmas.Bool.Decides.{nat_tests}
 use Rattle.lines.specs.Hex.{is_digit, worth, all_digits, decoded}
@@ -16,26 +17,17 @@ or_small a b =
     let o : a < 16 → b < 16 → bit_or a b < 16 = or_lt 4 a b in
     grind (arith, nat_tests)
 
-pub worth_small : (b : ℕ) → is_digit b ≡ true → worth b < 16
-worth_small b h = grind (arith, nat_tests)
-
 -- what a byte is worth in the table
 pub looked_small : (b : ℕ) → ltb (cond (is_digit b) (worth b) 255) 16 ≡ is_digit b
 looked_small b = grind (arith, nat_tests)
 
-all_digits_push : (xs : List ℕ) (x : ℕ) → all_digits (xs ++ x ∷ []) ≡ (all_digits xs && is_digit x)
-all_digits_push [] x = and-true (is_digit x)
-all_digits_push (y ∷ xs) x = ap (λ t. is_digit y && t) (all_digits_push xs x) ∙ sym (and_assoc (is_digit y) (all_digits xs) (is_digit x))
-
-pub all_digits_more : (xs : List ℕ) (i : ℕ) → i < length xs → all_digits (take (i + 1) xs) ≡ (all_digits (take i xs) && is_digit (get_or xs i 0))
-all_digits_more xs i h = ap all_digits (take_more xs i 0 h) ∙ all_digits_push (take i xs) (get_or xs i 0)
-
--- one byte more is looked up and or-ed
-pub seen_more : (xs : List ℕ) (i seen v : ℕ) → i < length xs → ltb seen 16 ≡ all_digits (take i xs)
-    → v ≡ cond (is_digit (get_or xs i 0)) (worth (get_or xs i 0)) 255 → ltb (bit_or seen v) 16 ≡ all_digits (take (i + 1) xs)
-seen_more xs i seen v h e w =
-    or_small seen v ∙ ap (λ t. ltb seen 16 && ltb t 16) w ∙ ap (λ t. ltb seen 16 && t) (looked_small (get_or xs i 0))
-    ∙ ap (λ t. t && is_digit (get_or xs i 0)) e ∙ sym (all_digits_more xs i h)
+-- all bytes looked up and or-ed
+pub seen_digits : (xs : List ℕ) (seen : ℕ) → ltb (fold (λ s b. bit_or s (cond (is_digit b) (worth b) 255)) seen xs) 16 ≡ (ltb seen 16 && all_digits xs)
+seen_digits [] seen = sym (and-true (ltb seen 16))
+seen_digits (x ∷ xs) seen =
+    seen_digits xs (bit_or seen (cond (is_digit x) (worth x) 255))
+    ∙ ap (λ t. t && all_digits xs) (or_small seen (cond (is_digit x) (worth x) 255) ∙ ap (λ t. ltb seen 16 && t) (looked_small x))
+    ∙ and_assoc (ltb seen 16) (is_digit x) (all_digits xs)
 
 pub digit_at : (xs : List ℕ) (i : ℕ) → i < length xs → all_digits xs ≡ true → is_digit (get_or xs i 0) ≡ true
 digit_at [] i h e = absurd (omega arith)
@@ -58,6 +50,19 @@ pair_more xs i h =
     let next : 2 * i + 1 + 1 ≡ 2 * i + 2 = omega arith in
     ap (λ n. take n xs) two ∙ take-add (2 * i) 2 xs
     ∙ ap (λ t. take (2 * i) xs ++ take 2 t) (drop_more xs (2 * i) 0 (omega arith) ∙ ap (λ t. get_or xs (2 * i) 0 ∷ t) (drop_more xs (2 * i + 1) 0 h))
+
+-- the digits of a pair
+nth_pair : (k i : ℕ) (xs : List ℕ) → i < k → get_or (first_chunks 2 k xs) i [] ≡ take 2 (drop (2 * i) xs)
+nth_pair zero i xs h = absurd (omega arith)
+nth_pair (suc k) zero xs h = refl
+nth_pair (suc k) (suc i) xs h =
+    let next : 2 + 2 * i ≡ 2 * suc i = omega arith in
+    nth_pair k i (drop 2 xs) (omega arith) ∙ ap (take 2) (drop-drop (2 * i) 2 xs ∙ ap (λ n. drop n xs) next)
+
+pub pair_at : (xs : List ℕ) (i : ℕ) → i < length xs / 2 → get_or (first_chunks 2 (length xs / 2) xs) i [] ≡ get_or xs (2 * i) 0 ∷ get_or xs (2 * i + 1) 0 ∷ []
+pair_at xs i h =
+    nth_pair (length xs / 2) i xs h
+    ∙ ap (take 2) (drop_more xs (2 * i) 0 (omega arith) ∙ ap (λ t. get_or xs (2 * i) 0 ∷ t) (drop_more xs (2 * i + 1) 0 (omega arith)))
 
 -- one pair more is written
 pub pairs_more : (xs old : List ℕ) (i : ℕ) → 2 * i + 1 < length xs → i < length old

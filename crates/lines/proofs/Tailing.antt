@@ -129,12 +129,6 @@ by_tail Returned kept p says =
 by_tail Other kept p says =
     ap (λ d. paired d (length (kept ++ unreturned p))) (both_digits kept (unreturned p) ∙ with_false (all_digits kept) (all_digits (unreturned p)) says)
 
--- the digits past the kept bytes are not more than the bytes
-past_small : (t : Tail) (n past : ℕ) → Some past ≡ digits_past t n → past ≤ n
-past_small Digits n past e = let p : past ≡ n = cc in omega arith
-past_small Returned n past e = let p : past ≡ n - 1 = cc in omega arith
-past_small Other n past e = let z : ◌≡◌ {A = ℕ} 0 1 = cc in absurd (omega arith)
-
 -- a line that is not kept whole, with its tail and what stands past the kept bytes
 pub record Long (b : LineBuffer) (text kept : List ℕ) (n : ℕ) : Type 0 where
   pub holds : Holds b text
@@ -153,17 +147,3 @@ long_pairs b text kept n t m o l u v w =
     let x : m ≡ length p = v ∙ sym (past_is b text kept n l) in
     ap (λ o. size_by (all_digits kept) o (length kept)) (w ∙ ap (λ m. digits_past t m) x ∙ ap (λ t. digits_past t (length p)) (u ∙ l.holds.tail))
     ∙ sym (ap pairs (parted text b.most n l.long l.inside ∙ ap (λ t. t ++ unreturned p) (sym l.part)) ∙ by_tail (tail_of p) kept p (tail_says p))
-
-pub long_fits : (b : LineBuffer) (text kept : List ℕ) (n : ℕ) (t : Tail) (m past : ℕ) → Long b text kept n → m ≡ b.past → Some past ≡ digits_past t m → past + length kept < 2 ^ 64
-long_fits b text kept n t m past l v w =
-    omega (
-      arith,
-      past_small t m past w,
-      past_is b text kept n l,
-      length-drop b.most text,
-      l.small,
-      l.long,
-      ap length l.part,
-      length-drop n (take b.most text),
-      length-take-le b.most text (omega (arith, l.long)),
-    )

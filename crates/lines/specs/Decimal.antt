@@ -1,13 +1,13 @@
 -- Decimal numbers: digits only, at least one, and no zero in front of another digit. Assumes nothing.
-use Rattle.std.specs.Prelude.{ℕ, ◌+◌, ◌-◌, ◌*◌, ◌^◌, Bool, true, cond, not, ◌&&◌, List, [], ◌∷◌, length, Some, None, fold, Option, ◌==◌, nat_le, nat_lt, slice_index}
+use Rattle.std.specs.Prelude.{ℕ, ◌+◌, ◌-◌, ◌*◌, ◌^◌, Bool, cond, not, ◌&&◌, List, length, Some, None, fold, Option, ◌==◌, nat_le, nat_lt, slice_index}
+use Rattle.std.specs.List.{list_all}
 
 -- 0 to 9
 abbrev pub is_decimal : ℕ → Bool
 is_decimal b = nat_le 0x30 b && nat_le b 0x39
 
 abbrev pub all_decimal : List ℕ → Bool
-all_decimal [] = true
-all_decimal (b ∷ bs) = is_decimal b && all_decimal bs
+all_decimal text = list_all is_decimal text
 
 -- two digits or more, of which the first is 0
 abbrev pub zero_first : List ℕ → Bool

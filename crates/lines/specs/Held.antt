@@ -11,16 +11,20 @@ pub record Holds (buffer : LineBuffer) (line : List ℕ) : Type 0 where
   pub past : buffer.past ≡ min (2 ^ 64 - 1) (length line - buffer.most)
   pub tail : buffer.tail ≡ tail_of (drop buffer.most line)
 
+-- what is said of whatever line the buffer holds
+abbrev pub OfLine : LineBuffer → (List ℕ → Type 0) → Type 0
+OfLine buffer says = (line : List ℕ) → Holds buffer line → says line
+
 -- of the bytes held by a reader, those before the first line feed go on with whatever line the buffer held; without memory it holds the same line still
 abbrev pub Takes : LineBuffer → LineBuffer → List ℕ → Result Taken AllocError → Type 0
 Takes before after held (Ok t) =
     (t.count ≡ through_feed held) × (t.ended ≡ has_feed held)
-    × ((line : List ℕ) → Holds before line → Holds after (line ++ before_feed held))
-Takes before after held (Err e) = (line : List ℕ) → Holds before line → Holds after line
+    × OfLine before (λ line. Holds after (line ++ before_feed held))
+Takes before after held (Err e) = OfLine before (λ line. Holds after line)
 
 -- whatever line the buffer held goes on by some bytes, none of them a line feed
 abbrev pub GoesOn : LineBuffer → LineBuffer → Type 0
-GoesOn before after = (line : List ℕ) → Holds before line → (piece : List ℕ) × (has_feed piece ≡ false) × Holds after (line ++ piece)
+GoesOn before after = OfLine before (λ line. (piece : List ℕ) × (has_feed piece ≡ false) × Holds after (line ++ piece))
 
 -- the buffer holds some line, in which there is no line feed
 abbrev pub HoldsLine : LineBuffer → Type 0

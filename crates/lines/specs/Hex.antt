@@ -1,5 +1,6 @@
 -- Hexadecimal text: two digits for a byte, the high one first. Assumes nothing.
-use Rattle.std.specs.Prelude.{ℕ, ◌+◌, ◌-◌, ◌*◌, ◌/◌, ◌%◌, Bool, true, cond, ◌&&◌, ◌||◌, List, [], ◌∷◌, length, Ok, Err, Result, ◌==◌, nat_le}
+use Rattle.std.specs.Prelude.{ℕ, ◌+◌, ◌-◌, ◌*◌, ◌/◌, ◌%◌, Bool, cond, ◌&&◌, ◌||◌, List, [], ◌∷◌, length, Ok, Err, Result, ◌==◌, nat_le}
+use Rattle.std.specs.List.{list_all}
 use Rattle.lines.specs.declared.refusal.HexRefusal.{HexRefusal}
 use Rattle.lines.specs.declared.refusal.HexRefusal.TheVariants.{Digit, Odd, Room}
 
@@ -15,8 +16,7 @@ abbrev pub worth : ℕ → ℕ
 worth b = cond (nat_le b 0x39) (b - 0x30) (cond (nat_le b 0x46) (b - 0x41 + 10) (b - 0x61 + 10))
 
 abbrev pub all_digits : List ℕ → Bool
-all_digits [] = true
-all_digits (b ∷ bs) = is_digit b && all_digits bs
+all_digits text = list_all is_digit text
 
 -- the bytes of pairs of digits
 abbrev pub decoded : List ℕ → List ℕ

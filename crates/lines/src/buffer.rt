@@ -7,7 +7,9 @@ ghost use Rattle.std.specs.Prelude.{◌≤◌, vec_len};
 
 use crate::tail::Tail;
 
-// The first bytes of a line, and of those past them only their number and what they are.
+// The first bytes of a line, and of those past them only their number and what they are. The line itself can be no
+// ghost field (`ghost line: { List ℕ }` is refused: only a proposition, or data of a struct that owns raw memory), so
+// clauses speak of it by `OfLine`.
 #[derive(Drop)]
 pub struct LineBuffer {
     kept: Vec<u8>,
@@ -19,7 +21,7 @@ pub struct LineBuffer {
     ghost bounded: { vec_len kept ≤ most },
 }
 
-// How much was taken.
+// How much was taken. Both fields say something in each case, so an enum would only hold the count twice.
 #[derive(Clone, Copy, PartialEq, Eq, Debug)]
 pub struct Taken {
     pub count: usize,

@@ -26,7 +26,7 @@ const WORTHS: [u8; 256] = [
 fn looked_up(byte: u8) -> u8
     ensures value { result ≡ (if is_digit byte then worth byte else 255) }
 {
-    WORTHS[byte as usize]
+    WORTHS[usize::from(byte)]
 }
 
 pub(crate) fn is_digit(byte: u8) -> bool
@@ -38,11 +38,7 @@ pub(crate) fn is_digit(byte: u8) -> bool
 pub fn all_digits(text: &[u8]) -> bool
     ensures value { result ≡ all_digits text.now }
 {
-    let mut seen = 0u8;
-    for byte in text {
-        seen |= looked_up(*byte);
-    }
-    seen < 16
+    text.iter().fold(0, |seen, byte| seen | looked_up(*byte)) < 16
 }
 
 fn pair(high: u8, low: u8) -> u8
@@ -59,8 +55,9 @@ fn put_pairs(text: &[u8], room: &mut [u8])
     requires fits { length text.now / 2 ≤ length room.old }
     ensures after { room.new ≡ decoded text.now ++ drop (length text.now / 2) room.old }
 {
-    for i in 0..text.len() / 2 {
-        room[i] = pair(text[2 * i], text[2 * i + 1]);
+    // by index: of a room zipped by `iter_mut` a proof knows nothing after the loop
+    for (i, [high, low]) in text.as_chunks::<2>().0.iter().enumerate() {
+        room[i] = pair(*high, *low);
     }
 }
 

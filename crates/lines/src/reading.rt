@@ -38,19 +38,16 @@ fn take_held<B: BufRead>(input: &mut B, line: &mut LineBuffer) -> io::Result<Tur
 {
     let held = match input.fill_buf() {
         Ok(held) => held,
+        // no `?`: an interruption is no error
         Err(e) if is_interruption(e.kind()) => return Ok(Turn::Within),
         Err(e) => return Err(e),
     };
     if held.is_empty() {
         return Ok(Turn::End);
     }
-    match line.take(held) {
-        Ok(taken) => {
-            input.consume(taken.count);
-            Ok(turn_after(taken.ended))
-        }
-        Err(e) => Err(io::Error::from(e)),
-    }
+    let taken = line.take(held)?;
+    input.consume(taken.count);
+    Ok(turn_after(taken.ended))
 }
 
 // The next line, without its line feed, in `line`: whether there is one. The last may lack the feed.
@@ -59,12 +56,12 @@ pub fn next_line<B: BufRead>(input: &mut B, line: &mut LineBuffer) -> io::Result
     ensures same { line.new.most ≡ line.old.most }
 {
     line.clear();
+    // a reader may have no end, so that no measure falls in a `while let`
     for _ in 0..u64::MAX {
-        match take_held(input, line) {
-            Ok(Turn::Within) => {}
-            Ok(Turn::Fed) => return Ok(true),
-            Ok(Turn::End) => break,
-            Err(e) => return Err(e),
+        match take_held(input, line)? {
+            Turn::Within => {}
+            Turn::Fed => return Ok(true),
+            Turn::End => break,
         }
     }
     Ok(!line.is_empty())

@@ -27,10 +27,6 @@ impl Tail {
     pub(crate) fn after_all(self, bytes: &[u8]) -> Tail
         ensures value { result ≡ fold tail_after self bytes.now }
     {
-        let mut tail = self;
-        for byte in bytes {
-            tail = tail.after(*byte);
-        }
-        tail
+        bytes.iter().fold(self, |tail, byte| tail.after(*byte))
     }
 }

@@ -1,7 +1,7 @@
 // Hexadecimal digits after a key, on a line of any length.
-ghost use Rattle.std.specs.Prelude.{◌≡◌, ℕ, ◌^◌, ◌<◌, ◌≤◌, List, length, take, drop, if◌then◌else◌, nat_le};
+ghost use Rattle.std.specs.Prelude.{◌≡◌, ℕ, ◌^◌, ◌<◌, ◌≤◌, length, take, drop, if◌then◌else◌, nat_le};
 ghost use Rattle.lines.specs.Ends.{unreturned};
-ghost use Rattle.lines.specs.Held.{Holds};
+ghost use Rattle.lines.specs.Held.{OfLine};
 ghost use Rattle.lines.specs.Keys.{after as reading, paired, pairs, put_into};
 ghost use Rattle.lines.specs.Tails.{digits_past};
 
@@ -27,18 +27,15 @@ fn past_digits(tail: Tail, past: u64) -> Option<u64>
 fn pair_up(all: bool, digits: u64) -> Option<u64>
     ensures value { result ≡ paired all digits }
 {
-    if all && digits % 2 == 0 {
-        Some(digits / 2)
-    } else {
-        None
-    }
+    (all && digits % 2 == 0).then_some(digits / 2)
 }
 
 // How many bytes the digits stand for of which only the first are kept.
 fn long_size(kept: &[u8], line: &LineBuffer) -> Option<u64>
-    ensures value { (text : List ℕ) (n : ℕ) → Holds line.now text → line.now.most < length text → length text < 2 ^ 64 → n ≤ line.now.most → kept.now ≡ drop n (take line.now.most text) → result ≡ pairs (drop n (unreturned text)) }
+    ensures value { OfLine line.now (λ text. (n : ℕ) → line.now.most < length text → length text < 2 ^ 64 → n ≤ line.now.most → kept.now ≡ drop n (take line.now.most text) → result ≡ pairs (drop n (unreturned text))) }
 {
     let past = past_digits(line.tail(), line.past())?;
+    // here and below: as in Rust there is no `From<usize>` for `u64`
     let digits = past.checked_add(kept.len() as u64)?;
     pair_up(all_digits(kept), digits)
 }
@@ -50,28 +47,20 @@ fn whole_size(digits: &[u8], room: &mut [u8]) -> Option<u64>
 {
     match decode(digits, room) {
         Ok(n) => Some(n as u64),
-        Err(refusal) => match refusal {
-            HexRefusal::Room => Some(digits.len() as u64 / 2),
-            HexRefusal::Digit | HexRefusal::Odd => None,
-        },
+        Err(HexRefusal::Room) => Some(digits.len() as u64 / 2),
+        Err(HexRefusal::Digit | HexRefusal::Odd) => None,
     }
 }
 
 // How many bytes the line states after the key, if it is the key and pairs of digits. Where the line is kept whole
 // and there is room for them, the bytes are at the front of the room; else the room is as it was.
 pub fn hex_value(line: &LineBuffer, key: &[u8], room: &mut [u8]) -> Option<u64>
-    ensures value { (text : List ℕ) → Holds line.now text → length text < 2 ^ 64 → length key.now ≤ line.now.most → result ≡ reading key.now pairs (unreturned text) }
-    ensures after { (text : List ℕ) → Holds line.now text → room.new ≡ (if nat_le (length text) line.now.most then put_into room.old (drop (length key.now) (unreturned text)) result else room.old) }
+    ensures value { OfLine line.now (λ text. length text < 2 ^ 64 → length key.now ≤ line.now.most → result ≡ reading key.now pairs (unreturned text)) }
+    ensures after { OfLine line.now (λ text. room.new ≡ (if nat_le (length text) line.now.most then put_into room.old (drop (length key.now) (unreturned text)) result else room.old)) }
 {
     if line.is_whole() {
-        match value_after(without_return(line.bytes()), key) {
-            Some(digits) => whole_size(digits, room),
-            None => None,
-        }
+        whole_size(value_after(without_return(line.bytes()), key)?, room)
     } else {
-        match value_after(line.bytes(), key) {
-            Some(kept) => long_size(kept, line),
-            None => None,
-        }
+        long_size(value_after(line.bytes(), key)?, line)
     }
 }

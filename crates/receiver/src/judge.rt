@@ -18,20 +18,14 @@ pub(crate) struct Judged {
 fn is_repeat(last: Option<SequenceNumber>, sequence: SequenceNumber) -> bool
     ensures value { Decides result (last ≡ Some sequence) }
 {
-    match last {
-        Some(last) => last.0 == sequence.0,
-        None => false,
-    }
+    last == Some(sequence)
 }
 
 // The first answer that fits, or the section's refusal.
 pub(crate) fn judge(state: &State, section: &Section<'_>) -> Result<Judged, SectionRefusal>
     ensures cases { MatchResult result (λ j. Judges state.now section.now.bytes.now (Ok j.answer) × (j.sequence ≡ (fields_of section.now.bytes.now).sequence)) (λ e. Judges state.now section.now.bytes.now (Err e)) }
 {
-    let fields = match section.fields() {
-        Ok(fields) => fields,
-        Err(e) => return Err(e),
-    };
+    let fields = section.fields()?;
     let sequence = fields.sequence;
     if is_repeat(state.last, sequence) {
         return Ok(Judged {
@@ -45,15 +39,9 @@ pub(crate) fn judge(state: &State, section: &Section<'_>) -> Result<Judged, Sect
             sequence,
         });
     }
-    match section.naming_location(&state.place) {
-        Ok(Some(entry)) => Ok(Judged {
-            answer: Answer::InForce(entry),
-            sequence,
-        }),
-        Ok(None) => Ok(Judged {
-            answer: Answer::Elsewhere,
-            sequence,
-        }),
-        Err(e) => Err(e),
-    }
+    let naming = section.naming_location(&state.place)?;
+    Ok(Judged {
+        answer: naming.map_or(Answer::Elsewhere, Answer::InForce),
+        sequence,
+    })
 }

@@ -1,4 +1,5 @@
-// The receiver: a sheet and the set that it owns.
+// The receiver: a sheet and the set that it owns. What its calls promise begins with any start and any history that
+// it may have had, and is no invariant of it: the law relates all histories, and the receiver keeps none.
 use history::State;
 use sets::Set;
 

@@ -4,12 +4,12 @@ ghost use Rattle.document.specs.Law.{DescriptorOrderDoesNotMatter};
 ghost use Rattle.history.specs.Histories.{Event, Start};
 ghost use Rattle.history.specs.Law.{Law, Determined};
 ghost use Rattle.history.specs.Replies.{event, Replies, Replied};
-ghost use Rattle.receiver.specs.Stood.{Stood, GoesOn};
+ghost use Rattle.receiver.specs.Stood.{began, Stood, GoesOn};
 ghost use Rattle.receiver.specs.Watched.{Watched};
 ghost use Rattle.calls.specs.declared.reply.Reply.{Reply};
 
 use crate::receiver::Receiver;
-use calls::{Call, CallRefusal, Reply};
+use calls::{Call, Reply};
 use sets::Set;
 use station::{Path, Place};
 
@@ -28,18 +28,9 @@ fn make_call<S: Set>(receiver: &mut Receiver<S>, call: Call<'_>) -> Reply
     ensures the_calls_before_determine_the_reply { (s : Start) (h : List Event) → Stood S.meaning s h receiver.old → Replies s h (event call.entry) result }
 {
     match call {
-        Call::Section(bytes) => match receiver.section(bytes) {
-            Ok(answer) => Reply::Answered(answer),
-            Err(e) => Reply::Refused(CallRefusal::Section(e)),
-        },
-        Call::Reading(seconds) => match receiver.reading(seconds) {
-            Ok(()) => Reply::Granted,
-            Err(e) => Reply::Refused(CallRefusal::Reading(e)),
-        },
-        Call::Choice(number) => match receiver.choice(number) {
-            Ok(()) => Reply::Granted,
-            Err(e) => Reply::Refused(CallRefusal::Choice(e)),
-        },
+        Call::Section(bytes) => Reply::from(receiver.section(bytes)),
+        Call::Reading(seconds) => Reply::from(receiver.reading(seconds)),
+        Call::Choice(number) => Reply::from(receiver.choice(number)),
     }
 }
 
@@ -56,12 +47,13 @@ pub fn carry_on<S: Set, W: Watch<S>>(
     ensures the_watcher_sees_each_call_with_its_reply { Watched W.sees (λ rs. (s : Start) (h : List Event) → Stood S.meaning s h receiver.old → Replied s h (map event calls.now) rs) (map event calls.now) watcher.old watcher.new }
     ensures rest { drop (length calls.now) replies.new ≡ drop (length calls.now) replies.old }
 {
-    for i in 0..calls.len() {
-        let reply = make_call(receiver, calls[i]);
+    for (i, call) in calls.iter().enumerate() {
+        let reply = make_call(receiver, *call);
+        // By index, since there may be fewer replies than calls: tried with `get_mut`, the proof of what was written did not close.
         if i < replies.len() {
             replies[i] = reply;
         }
-        watcher.watch(&calls[i], reply, receiver);
+        watcher.watch(call, reply, receiver);
     }
 }
 
@@ -75,10 +67,10 @@ pub fn rehearse<S: Set, W: Watch<S>>(
     replies: &mut [Reply],
     watcher: &mut W,
 ) -> Receiver<S>
-    ensures stands { Stood S.meaning (record { place = place; path = path; clock = clock; found = S.meaning set }) (map event calls.now) result }
-    ensures the_set_shows_what_the_calls_ask { Law (record { place = place; path = path; clock = clock; found = S.meaning set }) (map event calls.now) (S.meaning result.set) }
-    ensures the_calls_before_determine_each_reply { Replied (record { place = place; path = path; clock = clock; found = S.meaning set }) [] (map event calls.now) replies.new }
-    ensures the_watcher_sees_each_call_with_its_reply { Watched W.sees (λ rs. Replied (record { place = place; path = path; clock = clock; found = S.meaning set }) [] (map event calls.now) rs) (map event calls.now) watcher.old watcher.new }
+    ensures stands { Stood S.meaning (began place path clock (S.meaning set)) (map event calls.now) result }
+    ensures the_set_shows_what_the_calls_ask { Law (began place path clock (S.meaning set)) (map event calls.now) (S.meaning result.set) }
+    ensures the_calls_before_determine_each_reply { Replied (began place path clock (S.meaning set)) [] (map event calls.now) replies.new }
+    ensures the_watcher_sees_each_call_with_its_reply { Watched W.sees (λ rs. Replied (began place path clock (S.meaning set)) [] (map event calls.now) rs) (map event calls.now) watcher.old watcher.new }
     ensures the_calls_determine_the_set { Determined }
     ensures the_order_of_descriptors_does_not_matter { DescriptorOrderDoesNotMatter }
     ensures rest { drop (length calls.now) replies.new ≡ drop (length calls.now) replies.old }

@@ -33,9 +33,7 @@ pub(crate) fn after_answer(state: &State, answer: Answer, sequence: SequenceNumb
 {
     match answer {
         Answer::Repeat => *state,
-        Answer::Test => with_sequence(state, sequence),
-        Answer::Elsewhere => with_sequence(state, sequence),
-        Answer::InForce(_) => with_sequence(state, sequence),
+        _ => with_sequence(state, sequence),
     }
 }
 
@@ -43,13 +41,8 @@ pub(crate) fn after_answer(state: &State, answer: Answer, sequence: SequenceNumb
 fn is_over(alert: &Option<Alert>, seconds: u32) -> bool
     ensures value { Decides result (Over alert.now seconds) }
 {
-    match alert {
-        Some(alert) => match alert.end {
-            Some(end) => end <= u64::from(seconds),
-            None => false,
-        },
-        None => false,
-    }
+    let end = alert.as_ref().and_then(|alert| alert.end);
+    end.is_some_and(|end| end <= u64::from(seconds))
 }
 
 // After a reading, which is refused if it is earlier than the clock.

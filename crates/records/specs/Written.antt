@@ -1,5 +1,5 @@
 -- What is written onto the end of a record. Assumes nothing.
-use Rattle.std.specs.Prelude.{◌≡◌, ℕ, ◌+◌, ◌/◌, ◌%◌, cond, List, [], ◌∷◌, ◌++◌, Ok, Err, Result, nat_lt}
+use Rattle.std.specs.Prelude.{◌≡◌, ℕ, ◌+◌, ◌/◌, ◌%◌, ◌⊎◌, cond, List, [], ◌∷◌, ◌++◌, Ok, Err, decimal, Result, nat_lt}
 use Rattle.std.specs.declared.alloc.AllocError.{AllocError}
 
 -- a hexadecimal digit, in capitals
@@ -14,3 +14,8 @@ in_hex b = digit (b / 16) ∷ digit (b % 16) ∷ []
 abbrev pub Adds : List ℕ → List ℕ → Result (Unit {0}) AllocError → List ℕ → Type 0
 Adds before more (Ok u) after = after ≡ before ++ more
 Adds before more (Err e) after = after ≡ before
+
+-- a key and a number at the end; where there is no memory, the key or nothing
+abbrev pub AddsField : List ℕ → List ℕ → ℕ → Result (Unit {0}) AllocError → List ℕ → Type 0
+AddsField before key n (Ok u) after = after ≡ before ++ (key ++ decimal n)
+AddsField before key n (Err e) after = (after ≡ before) ⊎ (after ≡ before ++ key)

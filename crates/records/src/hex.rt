@@ -2,6 +2,7 @@
 ghost use Rattle.std.specs.Prelude.{◌≡◌, ◌<◌};
 ghost use Rattle.records.specs.Written.{digit, in_hex};
 
+// `char::from_digit` writes small letters, and the crate `hex` writes capitals only into new memory.
 fn hex_digit(nibble: u8) -> u8
     requires { nibble < 16 }
     ensures { result ≡ digit nibble }

@@ -1,7 +1,6 @@
 // Records of output: text and numbers put together before they are written.
 #![tactic(auto)]
 
-mod decimal;
 mod hex;
 mod record;
 

@@ -1,9 +1,9 @@
 // A record that is put together piece by piece.
 ghost use Rattle.std.specs.Prelude.{◌≡◌, [], decimal as digitsOf};
-ghost use Rattle.records.specs.Written.{Adds, in_hex};
+ghost use Rattle.records.specs.Written.{Adds, AddsField, in_hex};
 
-use super::decimal::{MOST, spell};
 use super::hex::in_hex;
+use itoa::Buffer;
 use std::alloc::{AllocError, Global};
 
 #[derive(Drop)]
@@ -42,16 +42,36 @@ impl Record {
     pub fn number(&mut self, n: u64) -> Result<(), AllocError>
         ensures { Adds self.old.held.items (digitsOf n) result self.new.held.items }
     {
-        let mut digits = [0u8; MOST];
-        let start = spell(n, &mut digits);
-        self.held.extend_from_slice(&digits[start..])
+        self.held
+            .extend_from_slice(Buffer::new().format(n).as_bytes())
+    }
+
+    // A key and a number in decimal. Without memory for the number, the key alone may be held.
+    pub fn field(&mut self, key: &[u8], n: u64) -> Result<(), AllocError>
+        ensures { AddsField self.old.held.items key.now n result self.new.held.items }
+    {
+        self.text(key)?;
+        self.number(n)
     }
 
     // In hexadecimal capitals.
     pub fn hex_byte(&mut self, byte: u8) -> Result<(), AllocError>
         ensures { Adds self.old.held.items (in_hex byte) result self.new.held.items }
     {
-        let digits = in_hex(byte);
-        self.held.extend_from_slice(&digits[..])
+        self.held.extend_from_slice(&in_hex(byte))
+    }
+}
+
+#[cfg(test)]
+mod tests {
+    use super::*;
+    use std::test::Fail;
+
+    #[test]
+    fn puts_a_field(rt: HostRuntime) -> Result<(), Fail> {
+        let mut record = Record::new(rt.alloc());
+        record.field(b"home=", 27)?;
+        assert_eq!(rt; record.bytes(), &b"home=27"[..]);
+        Ok(())
     }
 }

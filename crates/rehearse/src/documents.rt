@@ -11,15 +11,12 @@ const OUT: usize = 6143;
 
 pub fn deliver_document(printer: &mut Printer, bytes: &[u8]) {
     let section = Section::read(bytes);
-    let mut words = [0u8; 1024];
     // A section that is refused has no text, and its document is refused first.
-    let size = match section.write_text(&mut words) {
-        Ok(size) => size,
-        Err(_) => 0,
-    };
+    let text = section.text().ok();
+    let words = text.as_ref().map_or(&[][..], |text| text.as_bytes());
     let mut work = [0u8; WORK];
     let mut out = [0u8; OUT];
-    match deliver(&section, &words[0..size], &mut work, &mut out) {
+    match deliver(&section, words, &mut work, &mut out) {
         Ok(document) => printer.document(document),
         Err(refusal) => printer.undelivered(refusal.number(), refusal.call().as_bytes()),
     }

@@ -1,5 +1,6 @@
 // The lines of the script, one after another.
-use crate::output::Output;
+ghost use Rattle.std.specs.Prelude.{◌≡◌, ◌+◌, ◌-◌, ◌^◌, min, take};
+
 use lines::LineBuffer;
 use script::{Asked, read_line};
 use std::io;
@@ -31,11 +32,15 @@ impl Input {
         })
     }
 
-    // What the next line asks for; none at the end of the script. Before a read that may wait, all answers are out.
-    pub fn next(&mut self, output: &mut Output) -> io::Result<Option<Asked>> {
-        if !lines::has_feed(self.reader.buffer()) {
-            output.flush()?;
-        }
+    // Whether the next line is held, so that no read for it can wait.
+    pub fn has_line(&self) -> bool {
+        lines::has_feed(self.reader.buffer())
+    }
+
+    // What the next line asks for; none at the end of the script.
+    pub fn next(&mut self) -> io::Result<Option<Asked>>
+        ensures { self.new.number ≡ min (2 ^ 64 - 1) (self.old.number + 1) }
+    {
         self.number = self.number.saturating_add(1);
         if lines::next_line(&mut self.reader, &mut self.line)? {
             Ok(Some(read_line(&self.line, &mut self.room[..])))
@@ -44,13 +49,18 @@ impl Input {
         }
     }
 
-    pub fn number(&self) -> u64 {
+    pub fn number(&self) -> u64
+        ensures { result ≡ self.now.number }
+    {
         self.number
     }
 
     // A section of so many bytes. One that is too long is as long as the room, which is too long as well.
-    pub fn section(&self, size: u64) -> &[u8] {
-        let held = size.min(ROOM as u64) as usize;
-        &self.room[0..held]
+    pub fn section(&self, size: u64) -> &[u8]
+        ensures { result.now ≡ take size self.now.room }
+    {
+        let held = usize::try_from(size).ok();
+        held.and_then(|size| self.room.get(..size))
+            .unwrap_or(&self.room)
     }
 }

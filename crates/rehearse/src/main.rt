@@ -2,6 +2,7 @@
 #![tactic(auto)]
 
 mod documents;
+mod exchange;
 mod input;
 mod output;
 mod play;
@@ -10,8 +11,7 @@ mod printer;
 mod setup;
 mod shown;
 
-use input::Input;
-use output::Output;
+use exchange::Exchange;
 use play::{ignore, play};
 use script::{SetKind, begin_with};
 use sets::{ChannelMap, StudioBus};
@@ -19,26 +19,25 @@ use setup::Setup;
 use std::io;
 
 fn run(rt: &HostRuntime) -> io::Result<()> {
-    let mut input = Input::new(rt)?;
-    let mut output = Output::new(rt)?;
+    let mut exchange = Exchange::new(rt)?;
     let mut setup = Setup::new(rt.alloc());
-    let Some(first) = setup.take_lines(&mut input, &mut output)? else {
-        return output.flush();
+    let Some(first) = setup.take_lines(&mut exchange)? else {
+        return exchange.output.flush();
     };
     match begin_with(setup.settings(), setup.table()) {
         Ok(beginning) => match beginning.kind {
             SetKind::Bus => {
                 let bus = StudioBus::new();
-                play(&mut input, &mut output, bus, &beginning, first)?;
+                play(&mut exchange, bus, &beginning, first)?;
             }
             SetKind::Map => {
                 let map = ChannelMap::new(setup.table(), beginning.start);
-                play(&mut input, &mut output, map, &beginning, first)?;
+                play(&mut exchange, map, &beginning, first)?;
             }
         },
-        Err(refusal) => ignore(&mut input, &mut output, refusal, first)?,
+        Err(refusal) => ignore(&mut exchange, refusal, first)?,
     }
-    output.flush()
+    exchange.output.flush()
 }
 
 fn main(rt: HostRuntime) -> io::Result<()> {

@@ -1,4 +1,6 @@
 // Where the answers go.
+ghost use Rattle.std.specs.Prelude.{◌≡◌, [], OnOk, vec_items};
+
 use crate::printer::Printer;
 use std::io;
 use std::io::{BufWriter, Stdout, Write};
@@ -18,7 +20,10 @@ impl Output {
     }
 
     // Writes what was printed.
-    pub fn write(&mut self) -> io::Result<()> {
+    pub fn write(&mut self) -> io::Result<()>
+        ensures all { OnOk result (self.old.printer.outcome ≡ Ok tt) }
+        ensures after { OnOk result (vec_items self.new.printer.record.held ≡ []) }
+    {
         self.printer.outcome()?;
         self.writer.write_all(self.printer.bytes())?;
         self.printer.clear();
@@ -29,7 +34,9 @@ impl Output {
         self.writer.flush()
     }
 
-    pub fn not_understood(&mut self, line: u64) -> io::Result<()> {
+    pub fn not_understood(&mut self, line: u64) -> io::Result<()>
+        ensures { OnOk result (vec_items self.new.printer.record.held ≡ []) }
+    {
         self.printer.not_understood(line);
         self.write()
     }

@@ -1,7 +1,7 @@
 // The calls of a script, one after another, on any set.
 use crate::documents::deliver_document;
+use crate::exchange::Exchange;
 use crate::input::Input;
-use crate::output::Output;
 use calls::{Call, Reply};
 use receiver::{Receiver, carry_on, rehearse};
 use script::{Asked, BeginRefusal, Beginning};
@@ -11,7 +11,7 @@ use std::io;
 // A receiver begins without a call: the line of the begin is printed before any other.
 static NO_CALLS: [Call<'static>; 0] = [];
 
-// What a line asks of the receiver, if it is a call of it.
+// What a line asks of the receiver, if it is a call of it. As in Rust there is no `From<u32>` for `usize`.
 fn call_of<'a>(input: &'a Input, asked: Asked) -> Option<Call<'a>> {
     match asked {
         Asked::Section(size) => Some(Call::Section(input.section(size))),
@@ -23,11 +23,11 @@ fn call_of<'a>(input: &'a Input, asked: Asked) -> Option<Call<'a>> {
 
 // Does what a line asks for, and prints what comes of it.
 fn answer<S: Shows>(
-    input: &Input,
-    output: &mut Output,
+    exchange: &mut Exchange,
     receiver: &mut Receiver<S>,
     asked: Asked,
 ) -> io::Result<()> {
+    let Exchange { input, output } = exchange;
     if let Some(call) = call_of(input, asked) {
         let calls = [call];
         let mut replies = [Reply::Granted];
@@ -46,29 +46,18 @@ fn answer<S: Shows>(
 
 // Goes on to the end of the script.
 fn go_on<S: Shows>(
-    input: &mut Input,
-    output: &mut Output,
+    exchange: &mut Exchange,
     receiver: &mut Receiver<S>,
     first: Asked,
 ) -> io::Result<()> {
-    output.printer.begun(receiver);
-    output.write()?;
-    if !matches!(first, Asked::Begin) {
-        answer(input, output, receiver, first)?;
-    }
-    for _ in 0..u64::MAX {
-        let Some(asked) = input.next(output)? else {
-            break;
-        };
-        answer(input, output, receiver, asked)?;
-    }
-    Ok(())
+    exchange.output.printer.begun(receiver);
+    exchange.output.write()?;
+    exchange.answer_all(first, |exchange, asked| answer(exchange, receiver, asked))
 }
 
 // A receiver on the set, from its begin to the end of the script.
 pub fn play<S: Shows + Drop>(
-    input: &mut Input,
-    output: &mut Output,
+    exchange: &mut Exchange,
     set: S,
     beginning: &Beginning,
     first: Asked,
@@ -80,32 +69,19 @@ pub fn play<S: Shows + Drop>(
         beginning.clock,
         &NO_CALLS,
         &mut [],
-        &mut output.printer,
+        &mut exchange.output.printer,
     );
-    let result = go_on(input, output, &mut receiver, first);
+    let result = go_on(exchange, &mut receiver, first);
     let _ = receiver.end();
     result
 }
 
 // After a refused begin no line is understood but comments.
-pub fn ignore(
-    input: &mut Input,
-    output: &mut Output,
-    refusal: BeginRefusal,
-    first: Asked,
-) -> io::Result<()> {
-    output.printer.begin_refused(refusal.number());
-    output.write()?;
-    if !matches!(first, Asked::Begin) {
-        output.not_understood(input.number())?;
-    }
-    for _ in 0..u64::MAX {
-        let Some(asked) = input.next(output)? else {
-            break;
-        };
-        if !matches!(asked, Asked::Nothing) {
-            output.not_understood(input.number())?;
-        }
-    }
-    Ok(())
+pub fn ignore(exchange: &mut Exchange, refusal: BeginRefusal, first: Asked) -> io::Result<()> {
+    exchange.output.printer.begin_refused(refusal.number());
+    exchange.output.write()?;
+    exchange.answer_all(first, |exchange, asked| match asked {
+        Asked::Nothing => Ok(()),
+        _ => exchange.not_understood(),
+    })
 }

@@ -8,20 +8,13 @@ use section::EventId;
 use sets::Sound;
 use std::alloc::AllocError;
 
-// A key and a number.
-fn put_field(out: &mut Record, key: &[u8], number: u64) -> Result<(), AllocError>
-    ensures { Prints out.old.held.items (field key.now number) result out.new.held.items }
-{
-    out.text(key)?;
-    out.number(number)
-}
-
+// The number of a service, here and below, by `as`: as in Rust there is no `From<usize>` for `u64`.
 fn put_sound(out: &mut Record, sound: Sound) -> Result<(), AllocError>
     ensures { Prints out.old.held.items (sound_of sound) result out.new.held.items }
 {
     match sound {
         Sound::Own => out.text(b" sound=own"),
-        Sound::Borrowed(number) => put_field(out, b" sound=", number as u64),
+        Sound::Borrowed(number) => out.field(b" sound=", number as u64),
     }
 }
 
@@ -29,7 +22,7 @@ fn put_alert(out: &mut Record, alert: Option<EventId>) -> Result<(), AllocError>
     ensures { Prints out.old.held.items (alert_of alert) result out.new.held.items }
 {
     match alert {
-        Some(event) => put_field(out, b" alert=", event.0 as u64),
+        Some(event) => out.field(b" alert=", u64::from(event.0)),
         None => out.text(b" alert=none"),
     }
 }
@@ -38,7 +31,7 @@ fn put_entry(out: &mut Record, entry: Option<usize>) -> Result<(), AllocError>
     ensures { Prints out.old.held.items (entry_of entry) result out.new.held.items }
 {
     match entry {
-        Some(entry) => put_field(out, b" entry=", entry as u64),
+        Some(entry) => out.field(b" entry=", entry as u64),
         None => Ok(()),
     }
 }
@@ -54,8 +47,8 @@ fn put_caption(out: &mut Record, caption: &[u8]) -> Result<(), AllocError>
 fn put_state(out: &mut Record, shown: &Shown<'_>) -> Result<(), AllocError>
     ensures { Prints out.old.held.items (state_of shown.now) result out.new.held.items }
 {
-    put_field(out, b" home=", shown.home as u64)?;
-    put_field(out, b" screen=", shown.screen as u64)?;
+    out.field(b" home=", shown.home as u64)?;
+    out.field(b" screen=", shown.screen as u64)?;
     put_sound(out, shown.sound)?;
     put_alert(out, shown.alert)?;
     put_caption(out, shown.caption)
@@ -71,7 +64,7 @@ fn put_answer(
 {
     out.text(b"call=")?;
     out.text(name)?;
-    put_field(out, b" answer=", answer as u64)?;
+    out.field(b" answer=", u64::from(answer))?;
     put_entry(out, entry)
 }
 
@@ -101,14 +94,14 @@ pub fn put_begin(out: &mut Record, shown: &Shown<'_>) -> Result<(), AllocError>
 fn put_numbered(out: &mut Record, key: &[u8], number: u64) -> Result<(), AllocError>
     ensures { Prints out.old.held.items (numbered key.now number) result out.new.held.items }
 {
-    put_field(out, key, number)?;
+    out.field(key, number)?;
     out.text(b"\n")
 }
 
 pub fn put_begin_refused(out: &mut Record, number: u8) -> Result<(), AllocError>
     ensures { Prints out.old.held.items (numbered (codes "call=begin refused=") number) result out.new.held.items }
 {
-    put_numbered(out, b"call=begin refused=", number as u64)
+    put_numbered(out, b"call=begin refused=", u64::from(number))
 }
 
 pub fn put_not_understood(out: &mut Record, line: u64) -> Result<(), AllocError>
@@ -129,7 +122,7 @@ pub fn put_document(out: &mut Record, bytes: &[u8]) -> Result<(), AllocError>
 pub fn put_undelivered(out: &mut Record, number: u8, call: &[u8]) -> Result<(), AllocError>
     ensures { Prints out.old.held.items (undelivered number call.now) result out.new.held.items }
 {
-    put_field(out, b"call=document refused=", number as u64)?;
+    out.field(b"call=document refused=", u64::from(number))?;
     out.text(b" by=")?;
     out.text(call)?;
     out.text(b"\n")

@@ -1,22 +1,32 @@
 // Prints a line for each call that the receiver is given.
+ghost use Rattle.std.specs.Prelude.{◌≡◌, [], codes, vec_items, Result};
+ghost use Rattle.std.specs.Fn.{FnOnceReturnsAtMut};
+ghost use Rattle.std.specs.Result.{result_and};
+ghost use Rattle.std.specs.declared.alloc.AllocError.{AllocError};
+ghost use Rattle.rehearse.specs.Printed.{begin_line, call_line, numbered, document_lines, undelivered};
+ghost use Rattle.rehearse.specs.Told.{name_of, Tells, TellsSet};
+ghost use Rattle.rehearse.specs.declared.shown.Shown.{Shown};
+
 use crate::printed::{
     put_begin, put_begin_refused, put_call, put_document, put_not_understood, put_undelivered,
 };
-use crate::shown::shown_by;
+use crate::shown::{Shown, shown_by};
 use calls::{Call, Reply};
 use receiver::{Receiver, Watch};
 use records::Record;
 use sets::Shows;
 use std::alloc::{AllocError, Global};
 
-// What was printed and is not written yet, and whether there was no memory for some of it.
+// What was printed and is not written yet, and whether there was memory for all of it.
 #[derive(Drop)]
 pub struct Printer {
     record: Record,
-    fault: Option<AllocError>,
+    outcome: Result<(), AllocError>,
 }
 
-fn name_of(call: &Call<'_>) -> &'static [u8] {
+fn name_of(call: &Call<'_>) -> &'static [u8]
+    ensures { result.now ≡ name_of call.now }
+{
     match call {
         Call::Section(_) => b"section",
         Call::Reading(_) => b"tick",
@@ -25,75 +35,104 @@ fn name_of(call: &Call<'_>) -> &'static [u8] {
 }
 
 impl Printer {
-    pub fn new(heap: Global) -> Printer {
+    pub fn new(heap: Global) -> Printer
+        ensures record { vec_items result.record.held ≡ [] }
+        ensures outcome { result.outcome ≡ Ok tt }
+    {
         Printer {
             record: Record::new(heap),
-            fault: None,
+            outcome: Ok(()),
         }
     }
 
-    pub fn bytes(&self) -> &[u8] {
+    pub fn bytes(&self) -> &[u8]
+        ensures { result.now ≡ vec_items self.now.record.held }
+    {
         self.record.bytes()
     }
 
-    pub fn clear(&mut self) {
+    pub fn clear(&mut self)
+        ensures record { vec_items self.new.record.held ≡ [] }
+        ensures same { self.new.outcome ≡ self.old.outcome }
+    {
         self.record.clear();
     }
 
     // Whether there was memory for all that was printed.
-    pub fn outcome(&self) -> Result<(), AllocError> {
-        match self.fault {
-            Some(fault) => Err(fault),
-            None => Ok(()),
-        }
+    pub fn outcome(&self) -> Result<(), AllocError>
+        ensures { result ≡ self.now.outcome }
+    {
+        self.outcome
     }
 
-    // A watcher has nobody to tell of a fault, so it is kept.
-    fn keep(&mut self, res: Result<(), AllocError>) {
-        if let Err(fault) = res {
-            self.fault = Some(fault);
-        }
+    // A watcher has nobody to tell of a fault, so it is kept. In `print`, a call of this left its proof open.
+    fn keep(&mut self, printed: Result<(), AllocError>)
+        ensures outcome { self.new.outcome ≡ result_and self.old.outcome printed }
+        ensures same { self.new.record ≡ self.old.record }
+    {
+        self.outcome = self.outcome.and(printed);
     }
 
-    pub fn begun<S: Shows>(&mut self, receiver: &Receiver<S>) {
-        let result = put_begin(&mut self.record, &shown_by(receiver));
+    fn print<F: FnOnce(&mut Record) -> Result<(), AllocError>>(&mut self, put: F)
+        requires { F.IsAlwaysCallable put }
+        ensures { (r : Result (Unit {0}) AllocError) × FnOnceReturnsAtMut F.FnOnce put self.old.record r self.new.record × (self.new.outcome ≡ result_and self.old.outcome r) }
+    {
+        let printed = put(&mut self.record);
+        self.outcome = self.outcome.and(printed);
+    }
+
+    // This and the next by hand: of a closure that holds a `Shown`, which holds a reference, a proof learns nothing.
+    fn begins(&mut self, shown: &Shown<'_>)
+        ensures { Tells self.old self.new (begin_line shown.now) }
+    {
+        let result = put_begin(&mut self.record, shown);
         self.keep(result);
     }
 
-    pub fn begin_refused(&mut self, number: u8) {
-        let result = put_begin_refused(&mut self.record, number);
+    fn called(&mut self, name: &[u8], answer: u8, entry: Option<usize>, shown: &Shown<'_>)
+        ensures { Tells self.old self.new (call_line name.now answer entry shown.now) }
+    {
+        let result = put_call(&mut self.record, name, answer, entry, shown);
         self.keep(result);
     }
 
-    pub fn not_understood(&mut self, line: u64) {
-        let result = put_not_understood(&mut self.record, line);
-        self.keep(result);
+    pub fn begun<S: Shows>(&mut self, receiver: &Receiver<S>)
+        ensures { (shown : Shown) × TellsSet (S.Set.meaning receiver.now.set) shown × Tells self.old self.new (begin_line shown) }
+    {
+        self.begins(&shown_by(receiver));
     }
 
-    pub fn document(&mut self, bytes: &[u8]) {
-        let result = put_document(&mut self.record, bytes);
-        self.keep(result);
+    pub fn begin_refused(&mut self, number: u8)
+        ensures { Tells self.old self.new (numbered (codes "call=begin refused=") number) }
+    {
+        self.print(|out| put_begin_refused(out, number));
     }
 
-    pub fn undelivered(&mut self, number: u8, call: &[u8]) {
-        let result = put_undelivered(&mut self.record, number, call);
-        self.keep(result);
+    pub fn not_understood(&mut self, line: u64)
+        ensures { Tells self.old self.new (numbered (codes "call=none line=") line) }
+    {
+        self.print(|out| put_not_understood(out, line));
+    }
+
+    pub fn document(&mut self, bytes: &[u8])
+        ensures { Tells self.old self.new (document_lines bytes.now) }
+    {
+        self.print(|out| put_document(out, bytes));
+    }
+
+    pub fn undelivered(&mut self, number: u8, call: &[u8])
+        ensures { Tells self.old self.new (undelivered number call.now) }
+    {
+        self.print(|out| put_undelivered(out, number, call));
     }
 }
 
 impl<S: Shows> Watch<S> for Printer {
-    // no contract says what is printed
+    // this does not name the receiver, of which the line tells
     ghost sees = { λ _ _ _ _. Unit {0} };
 
     fn watch(&mut self, call: &Call<'_>, reply: Reply, receiver: &Receiver<S>) {
         let shown = shown_by(receiver);
-        let result = put_call(
-            &mut self.record,
-            name_of(call),
-            reply.number(),
-            reply.entry(),
-            &shown,
-        );
-        self.keep(result);
+        self.called(name_of(call), reply.number(), reply.entry(), &shown);
     }
 }

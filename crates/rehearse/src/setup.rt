@@ -1,6 +1,10 @@
 // The set-up lines, up to the one that ends the set-up.
-use crate::input::Input;
-use crate::output::Output;
+ghost use Rattle.std.specs.Prelude.{◌≡◌, [], is_some, OnOk, IfOk};
+ghost use Rattle.script.specs.Begins.{given};
+ghost use Rattle.script.specs.Settled.{settled, unsettled};
+ghost use Rattle.rehearse.specs.Setups.{table_after};
+
+use crate::exchange::Exchange;
 use script::{Asked, Setting, Settings};
 use station::Service;
 use std::alloc::{AllocError, Global};
@@ -16,28 +20,38 @@ pub struct Setup {
 }
 
 impl Setup {
-    pub fn new(heap: Global) -> Setup {
+    pub fn new(heap: Global) -> Setup
+        ensures settings { result.settings ≡ unsettled }
+        ensures table { result.table.items ≡ [] }
+    {
         Setup {
             settings: Settings::none(),
             table: Vec::new(heap),
         }
     }
 
-    pub fn settings(&self) -> &Settings {
+    pub fn settings(&self) -> &Settings
+        ensures { result.now ≡ self.now.settings }
+    {
         &self.settings
     }
 
-    pub fn table(&self) -> &[Service] {
+    pub fn table(&self) -> &[Service]
+        ensures { result.now ≡ self.now.table.items }
+    {
         self.table.as_slice()
     }
 
     // Takes a setting, unless its like was given before: whether it is taken.
-    fn take(&mut self, setting: Setting) -> Result<bool, AllocError> {
+    fn take(&mut self, setting: Setting) -> Result<bool, AllocError>
+        ensures value { IfOk result (λ taken. taken ≡ is_some (settled self.old.settings setting)) }
+        ensures settings { OnOk result (self.new.settings ≡ given self.old.settings (settled self.old.settings setting)) }
+        ensures table { OnOk result (self.new.table.items ≡ table_after self.old.table.items setting) }
+    {
         if let Setting::Service(service) = setting {
             if self.table.len() < MOST {
                 self.table.push(service)?;
             }
-            return Ok(true);
         }
         match self.settings.with(setting) {
             Some(settings) => {
@@ -48,24 +62,22 @@ impl Setup {
         }
     }
 
-    // Takes the set-up lines, and says what the line asks for that ends the set-up; none at the end of the script.
-    pub fn take_lines(
-        &mut self,
-        input: &mut Input,
-        output: &mut Output,
-    ) -> io::Result<Option<Asked>> {
+    // Takes the set-up lines, and says what the line that ends the set-up asks for besides; none at the end of the script.
+    pub fn take_lines(&mut self, exchange: &mut Exchange) -> io::Result<Option<Asked>> {
+        // a script may have no end, so that no measure falls in a `while let`
         for _ in 0..u64::MAX {
-            let Some(asked) = input.next(output)? else {
+            let Some(asked) = exchange.next()? else {
                 break;
             };
             let understood = match asked {
                 Asked::Nothing => true,
                 Asked::Unknown => false,
                 Asked::Setting(setting) => self.take(setting)?,
+                Asked::Begin => return Ok(Some(Asked::Nothing)),
                 call => return Ok(Some(call)),
             };
             if !understood {
-                output.not_understood(input.number())?;
+                exchange.not_understood()?;
             }
         }
         Ok(None)

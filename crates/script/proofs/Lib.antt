@@ -1,3 +1,3 @@
 pub mod Lining
 pub mod Marking
-pub mod Tests
+pub mod Lacking

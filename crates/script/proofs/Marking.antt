@@ -1,25 +1,12 @@
 -- The first mark of a text, and the marks of a service word by word. Assumes nothing.
-use Rattle.std.proofs.Common.{◌≡◌, ℕ, suc, ◌+◌, ◌<◌, ◌≤◌, Bool, true, false, cond, not, eqb, ltb, List, [], ◌∷◌, ◌++◌, length, get_or, take, drop, Some, None, Option, sym, refl, ap, ◌∙◌, append_assoc, one-add, arith, length-drop}
+use Rattle.std.proofs.Common.{◌≡◌, ℕ, suc, ◌+◌, ◌<◌, Bool, true, false, cond, not, eqb, ltb, List, [], ◌∷◌, ◌++◌, length, take, drop, Some, None, Option, sym, refl, ap, ◌∙◌, append_assoc, one-add, arith, length-drop}
 use Rattle.std.proofs.lemmas.List.{append-nil}
-use Rattle.std.proofs.lemmas.List.Sums.{prefix_len-drop_yes, prefix_len-drop_no, prefix_len-drop_all, prefix_len-le-length}
 use Rattle.std.proofs.lemmas.Bool.Decides.{nat_tests}
-use Rattle.std.proofs.lemmas.Bool.{eq-eqb, ne_eqb, lt-ltb, ltb-true, not_from_true, not_from_false}
+use Rattle.std.proofs.lemmas.Bool.{lt-ltb, ltb-true}
 use Rattle.script.specs.declared.marks.Marks.{Marks}
-use Rattle.script.specs.Parts.{is_other, mark_at, has_mark, before_mark, after_mark}
+use Rattle.lines.specs.Marks.{mark_at}
+use Rattle.script.specs.Parts.{has_mark, before_mark, after_mark}
 use Rattle.script.specs.Services.{with_mark, then_marks, marks_from}
-
--- what is left of a text at a mark, at another byte, and at the end
-pub mark_here : (m : ℕ) (xs : List ℕ) (i : ℕ) → i < length xs → get_or xs i 0 ≡ m → mark_at m (drop i xs) ≡ 0
-mark_here m xs i h e = prefix_len-drop_no (is_other m) xs i 0 h (not_from_true _ (eq-eqb _ m e))
-
-pub mark_further : (m : ℕ) (xs : List ℕ) (i : ℕ) → i < length xs → (get_or xs i 0 ≡ m → ⊥) → mark_at m (drop i xs) ≡ 1 + mark_at m (drop (i + 1) xs)
-mark_further m xs i h e = prefix_len-drop_yes (is_other m) xs i 0 h (not_from_false _ (ne_eqb _ m e))
-
-pub mark_past : (m : ℕ) (xs : List ℕ) (i : ℕ) → length xs ≤ i → mark_at m (drop i xs) ≡ 0
-mark_past m xs i h = prefix_len-drop_all (is_other m) xs i h
-
-pub mark_within : (m : ℕ) (xs : List ℕ) → mark_at m xs ≤ length xs
-mark_within m xs = prefix_len-le-length (is_other m) xs
 
 -- what follows a mark is shorter
 pub after_shorter : (m : ℕ) (xs : List ℕ) → has_mark m xs ≡ true → length (after_mark m xs) < length xs

@@ -34,6 +34,15 @@ marks_from m word (b ∷ text) = cond (b == 0x2C) (then_marks (with_mark m word)
 abbrev pub marks_after : List ℕ → Option Marks
 marks_after rest = cond (has_mark 0x2C rest) (marks_from unmarked [] (after_mark 0x2C rest)) (Some unmarked)
 
+-- the source ID and the marks that follow it
+abbrev pub with_source : Option ℕ → Option Marks → Option (ℕ × Marks)
+with_source (Some source) (Some m) = Some (source, m)
+with_source (Some source) None = None
+with_source None m = None
+
+abbrev pub source_of : List ℕ → Option (ℕ × Marks)
+source_of rest = with_source (short (parsed (before_mark 0x2C rest))) (marks_after rest)
+
 abbrev pub service_by : Option ℕ → Option ℕ → Option ℕ → Option Marks → Option Service
 service_by (Some major) (Some minor) (Some source) (Some m) =
     Some (record {

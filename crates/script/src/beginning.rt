@@ -1,5 +1,6 @@
 // What a receiver begins with, once the set-up is over.
 ghost use Rattle.std.specs.Prelude.{◌≡◌};
+ghost use Rattle.script.specs.declared.beginning.BeginRefusal.TheVariants.{Table, Place};
 ghost use Rattle.script.specs.Begins.{begin_number, kind_of, start_of, spot_of, Begins};
 
 use crate::asked::SetKind;
@@ -22,6 +23,22 @@ pub struct Beginning {
 pub enum BeginRefusal {
     Table(TableRefusal),
     Place(PlaceRefusal),
+}
+
+impl From<TableRefusal> for BeginRefusal {
+    ghost from_gives = { λ refusal e. e ≡ Table refusal };
+
+    fn from(refusal: TableRefusal) -> BeginRefusal {
+        BeginRefusal::Table(refusal)
+    }
+}
+
+impl From<PlaceRefusal> for BeginRefusal {
+    ghost from_gives = { λ refusal e. e ≡ Place refusal };
+
+    fn from(refusal: PlaceRefusal) -> BeginRefusal {
+        BeginRefusal::Place(refusal)
+    }
 }
 
 impl BeginRefusal {
@@ -63,20 +80,16 @@ pub fn begin_with(settings: &Settings, services: &[Service]) -> Result<Beginning
     ensures cases { Begins settings.now services.now result }
 {
     let kind = kind_of(settings);
+    // as in Rust there is no `From<u32>` for `usize`
     let start = start_of(settings) as usize;
     if let SetKind::Map = kind {
-        if let Err(refusal) = ChannelMap::check(services, start) {
-            return Err(BeginRefusal::Table(refusal));
-        }
+        ChannelMap::check(services, start)?;
     }
-    match spot_of(settings).place() {
-        Ok(place) => Ok(Beginning {
-            kind,
-            start,
-            place,
-            path: settings.path.unwrap_or(Path::InBand),
-            clock: settings.clock.unwrap_or(0),
-        }),
-        Err(refusal) => Err(BeginRefusal::Place(refusal)),
-    }
+    Ok(Beginning {
+        kind,
+        start,
+        place: spot_of(settings).place()?,
+        path: settings.path.unwrap_or(Path::InBand),
+        clock: settings.clock.unwrap_or(0),
+    })
 }

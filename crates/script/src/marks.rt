@@ -2,10 +2,10 @@
 ghost use Rattle.std.specs.Prelude.{◌≡◌, []};
 ghost use Rattle.script.specs.Services.{unmarked, with_mark, marks_from};
 
-use crate::parts::{after, before, has};
+use crate::parts::split_once;
 use lines::is_word;
 
-#[derive(Clone, Copy)]
+#[derive(Clone, Copy, Default)]
 pub(crate) struct Marks {
     pub controlled: bool,
     pub paid: bool,
@@ -13,42 +13,21 @@ pub(crate) struct Marks {
 }
 
 impl Marks {
-    pub(crate) fn none() -> Marks
-        ensures value { result ≡ unmarked }
-    {
-        Marks {
-            controlled: false,
-            paid: false,
-            apart: false,
-        }
-    }
-
-    // With one mark more, which stands there once at most.
+    // With one mark more, which stands there once at most. By tests: of a `match` on the words the proof did not close.
     fn with(self, word: &[u8]) -> Option<Marks>
         ensures value { result ≡ with_mark self word.now }
     {
-        let Marks {
-            controlled,
-            paid,
-            apart,
-        } = self;
-        if is_word(word, b"controlled") && !controlled {
+        if is_word(word, b"controlled") && !self.controlled {
             Some(Marks {
                 controlled: true,
-                paid,
-                apart,
+                ..self
             })
-        } else if is_word(word, b"paid") && !paid {
+        } else if is_word(word, b"paid") && !self.paid {
+            Some(Marks { paid: true, ..self })
+        } else if is_word(word, b"apart") && !self.apart {
             Some(Marks {
-                controlled,
-                paid: true,
-                apart,
-            })
-        } else if is_word(word, b"apart") && !apart {
-            Some(Marks {
-                controlled,
-                paid,
                 apart: true,
+                ..self
             })
         } else {
             None
@@ -60,11 +39,11 @@ impl Marks {
 pub(crate) fn read_marks(text: &[u8]) -> Option<Marks>
     ensures value { result ≡ marks_from unmarked [] text.now }
 {
-    let mut marks = Marks::none();
+    let mut marks = Marks::default();
     let mut rest = text;
-    while has(rest, b',') {
-        marks = marks.with(before(rest, b','))?;
-        rest = after(rest, b',');
+    while let Some((word, more)) = split_once(rest, b',') {
+        marks = marks.with(word)?;
+        rest = more;
     }
     marks.with(rest)
 }

@@ -1,10 +1,10 @@
 // A service of the map: its channel pair, its source ID and its marks.
 ghost use Rattle.std.specs.Prelude.{◌≡◌};
 ghost use Rattle.lines.specs.Decimal.{parsed};
-ghost use Rattle.script.specs.Services.{short, marks_after, service_of};
+ghost use Rattle.script.specs.Services.{short, source_of, service_of};
 
 use crate::marks::{Marks, read_marks};
-use crate::parts::{after, before, has};
+use crate::parts::split_once;
 use lines::parse_number;
 use station::{ChannelPair, Service, SourceId};
 
@@ -12,22 +12,16 @@ use station::{ChannelPair, Service, SourceId};
 fn short_number(text: &[u8]) -> Option<u16>
     ensures value { result ≡ short (parsed text.now) }
 {
-    let number = parse_number(text)?;
-    if number < 65536 {
-        Some(number as u16)
-    } else {
-        None
-    }
+    u16::try_from(parse_number(text)?).ok()
 }
 
-// What follows the source ID.
-fn marks_after(text: &[u8]) -> Option<Marks>
-    ensures value { result ≡ marks_after text.now }
+// The source ID, and the marks that may follow it.
+fn read_source(text: &[u8]) -> Option<(u16, Marks)>
+    ensures value { result ≡ source_of text.now }
 {
-    if has(text, b',') {
-        read_marks(after(text, b','))
-    } else {
-        Some(Marks::none())
+    match split_once(text, b',') {
+        Some((source, marks)) => Some((short_number(source)?, read_marks(marks)?)),
+        None => Some((short_number(text)?, Marks::default())),
     }
 }
 
@@ -35,12 +29,10 @@ fn marks_after(text: &[u8]) -> Option<Marks>
 pub(crate) fn read_service(text: &[u8]) -> Option<Service>
     ensures value { result ≡ service_of text.now }
 {
-    let tail = after(text, b'-');
-    let rest = after(tail, b',');
-    let major = short_number(before(text, b'-'))?;
-    let minor = short_number(before(tail, b','))?;
-    let source = short_number(before(rest, b','))?;
-    let marks = marks_after(rest)?;
+    let (major, rest) = split_once(text, b'-')?;
+    let (minor, rest) = split_once(rest, b',')?;
+    let (major, minor) = (short_number(major)?, short_number(minor)?);
+    let (source, marks) = read_source(rest)?;
     Some(Service {
         source: SourceId(source),
         channel: ChannelPair { major, minor },

@@ -6,7 +6,7 @@ use crate::asked::{SetKind, Setting};
 use crate::spot::Spot;
 use station::Path;
 
-#[derive(Clone, Copy)]
+#[derive(Clone, Copy, Default)]
 pub struct Settings {
     pub kind: Option<SetKind>,
     pub start: Option<u32>,
@@ -20,19 +20,14 @@ impl Settings {
     pub fn none() -> Settings
         ensures value { result ≡ unsettled }
     {
-        Settings {
-            kind: None,
-            start: None,
-            spot: None,
-            path: None,
-            clock: None,
-        }
+        Settings::default()
     }
 
     // With one setting more; none if its like was settled before. A service settles nothing here.
     pub fn with(self, setting: Setting) -> Option<Settings>
         ensures value { result ≡ settled self setting }
     {
+        // each arm looks at another field and sets it, which no parameter can stand for
         match setting {
             Setting::Service(_) => Some(self),
             Setting::Set(given) if self.kind.is_none() => Some(Settings {

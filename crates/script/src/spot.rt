@@ -13,7 +13,7 @@ pub struct Spot {
 }
 
 impl Spot {
-    // The place that the numbers name.
+    // The place that the numbers name. A `TryFrom` beside this public name would say the same twice.
     pub fn place(self) -> Result<Place, PlaceRefusal>
         ensures cases { MatchResult result (λ p. (ranged self.state self.county self.part ≡ true) × (p.state ≡ self.state) × (p.county ≡ self.county) × (p.part ≡ self.part)) (λ e. (ranged self.state self.county self.part ≡ false) × (e ≡ Range)) }
     {

@@ -5,7 +5,7 @@ ghost use Rattle.script.specs.Services.{service_of};
 ghost use Rattle.script.specs.Words.{number_after, set_of, path_of, spot_of, setting_of, words_ask};
 
 use crate::asked::{Asked, SetKind, Setting};
-use crate::parts::{after, before};
+use crate::parts::split_once;
 use crate::service::read_service;
 use crate::spot::Spot;
 use lines::{is_word, parse_number, value_after};
@@ -17,6 +17,7 @@ fn read_number(text: &[u8], key: &[u8]) -> Option<u32>
     parse_number(value_after(text, key)?)
 }
 
+// Here and below by tests: a `match` on the words goes byte by byte, of which the proof did not close.
 fn read_set(text: &[u8]) -> Option<SetKind>
     ensures value { result ≡ set_of text.now }
 {
@@ -45,11 +46,12 @@ fn read_place(text: &[u8]) -> Option<Spot>
     ensures value { result ≡ reading (codes "place=") spot_of text.now }
 {
     let value = value_after(text, b"place=")?;
-    let rest = after(value, b',');
+    let (state, rest) = split_once(value, b',')?;
+    let (county, part) = split_once(rest, b',')?;
     Some(Spot {
-        state: parse_number(before(value, b','))?,
-        county: parse_number(before(rest, b','))?,
-        part: parse_number(after(rest, b','))?,
+        state: parse_number(state)?,
+        county: parse_number(county)?,
+        part: parse_number(part)?,
     })
 }
 
@@ -62,6 +64,7 @@ fn read_map_service(text: &[u8]) -> Option<Service>
 fn read_setting(text: &[u8]) -> Option<Setting>
     ensures value { result ≡ setting_of text.now }
 {
+    // Of a chain of `map` and `or_else`, here and below, the proof did not close.
     if let Some(service) = read_map_service(text) {
         return Some(Setting::Service(service));
     }
@@ -77,10 +80,7 @@ fn read_setting(text: &[u8]) -> Option<Setting>
     if let Some(path) = read_path(text) {
         return Some(Setting::Path(path));
     }
-    match read_number(text, b"clock=") {
-        Some(number) => Some(Setting::Clock(number)),
-        None => None,
-    }
+    Some(Setting::Clock(read_number(text, b"clock=")?))
 }
 
 // What the words of a line ask for.

@@ -1,11 +1,9 @@
 -- What follows for a section that is refused, and for one that is not. Assumes nothing.
-use Rattle.std.proofs.Common.{◌≡◌, ℕ, ◌<◌, ◌≤◌, Bool, true, false, leb, List, length, Some, None, Option, refl, ap, ◌∙◌, arith}
-use Rattle.std.proofs.lemmas.Bool.{and_left, and_parts, lt-leb, leb-true}
+use Rattle.std.proofs.Common.{◌≡◌, ℕ, Bool, true, false, List, None, Option, refl, arith}
+use Rattle.std.proofs.lemmas.Bool.{and_parts}
 use Rattle.text.specs.Structure.{structured}
-use Rattle.section.specs.Places.{layout_of, part, nature_of, alert_of}
+use Rattle.section.specs.Places.{nature_of, alert_of}
 use Rattle.section.specs.Rules.{sized, headed, checks, versioned, adds, ranged, spelled, unless, refusal}
-use Rattle.section.specs.declared.layout.Layout.{Layout}
-use Rattle.section.specs.declared.layout.Span.{Span}
 use Rattle.section.specs.declared.refusal.SectionRefusal.{SectionRefusal}
 use Rattle.section.specs.declared.refusal.SectionRefusal.TheVariants.{Length, Head, CheckWord, Version, Layout as Lengths, Range, Text}
 
@@ -23,9 +21,6 @@ kept : (b : Bool) (e : SectionRefusal) (rest : Option SectionRefusal) → unless
 kept true e rest h = (refl, h)
 kept false e rest h = let z : ◌≡◌ {A = ℕ} 0 1 = cc in absurd (omega arith)
 
-breaks : (b : Bool) (e : SectionRefusal) (rest : Option SectionRefusal) → b ≡ false → unless b e rest ≡ Some e
-breaks b e rest h = ap (λ kept. unless kept e rest) h
-
 pub keeps : (s : List ℕ) → refusal s ≡ None → Keeps s
 unfolding refusal
 keeps s h =
@@ -37,24 +32,6 @@ keeps s h =
     let f = kept (ranged s) Range _ e.1 in
     let g = kept (spelled s) Text None f.1 in
     record { sizes = a.0; heads = b.0; checked = c.0; version = d.0; lengths = e.0; ranges = f.0; texts = g.0 }
-
--- a part by its span in the layout
-pub hands : (s : List ℕ) (l : Layout) (f : Layout → Span) (at : ℕ) (bs : List ℕ)
-    → (refusal s ≡ None) × (l ≡ layout_of s) → at ≡ (f l).start → bs ≡ part (f l).start (f l).end s
-    → (refusal s ≡ None) × (at ≡ (f (layout_of s)).start) × (bs ≡ part (f (layout_of s)).start (f (layout_of s)).end s)
-hands s l f at bs h a e = (h.0, a ∙ ap (λ x. (f x).start) h.1, e ∙ ap (λ x. part (f x).start (f x).end s) h.1)
-
--- a section of few bytes is refused by its length
-pub short_refused : (s : List ℕ) → length s < 46 → refusal s ≡ Some Length
-unfolding refusal
-short_refused s h = breaks (sized s) Length _ (and_left (leb 46 (length s)) _ (lt-leb 46 (length s) h))
-
--- a section that is not refused is neither short nor long
-pub lengths_of : (s : List ℕ) → refusal s ≡ None → (46 ≤ length s) × (length s ≤ 4096)
-lengths_of s h =
-    let a = and_parts (leb 46 (length s)) _ (keeps s h).sizes in
-    let b = and_parts (leb (length s) 4096) _ a.1 in
-    (leb-true 46 (length s) a.0, leb-true (length s) 4096 b.0)
 
 -- the text fields of a section that is not refused keep their structure
 pub texts_of : (s : List ℕ) → refusal s ≡ None → (structured (nature_of s) ≡ true) × (structured (alert_of s) ≡ true)

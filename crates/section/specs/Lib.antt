@@ -1,6 +1,5 @@
 pub mod Places
 pub mod Values
-pub mod Head
 pub mod Refusals
 pub mod Rules
 pub mod Parts

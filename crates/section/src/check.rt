@@ -1,95 +1,90 @@
 // The rules of a section, tested in their order.
-ghost use Rattle.std.specs.Prelude.{◌≡◌, ℕ, ◌+◌, ◌-◌, ◌*◌, ◌/◌, ◌%◌, ◌^◌, ◌<◌, ◌≤◌, true, false, length};
-ghost use Rattle.section.specs.Head.{Heads};
-ghost use Rattle.section.specs.Places.{layout_of};
-ghost use Rattle.section.specs.Rules.{sized, headed, checks, versioned, adds, ranged, spelled, broken, or_refused};
+ghost use Rattle.std.specs.Prelude.{◌≡◌, Some, None, MatchResult};
+ghost use Rattle.section.specs.Rules.{sized, headed, checks, versioned, adds, spelled, broken};
 
 use super::bytes::part_of;
 use super::head::{Head, split_head};
-use super::layout::Layout;
-use super::ranges::is_ranged;
+use super::laid::Laid;
 use super::refusal::SectionRefusal;
 use super::walk::lay_out;
 use checkword::check_word;
 use text::is_structured;
 
-fn is_sized(bytes: &[u8], head: &Head<'_>) -> bool
-    requires { Heads head.now bytes.now }
-    ensures { result ≡ sized bytes.now }
-{
-    46 <= bytes.len() && bytes.len() <= 4096 && usize::from(head.section_length) + 3 == bytes.len()
+impl<'a> Head<'a> {
+    fn is_sized(&self) -> bool
+        ensures value { result ≡ sized self.now.bytes.now }
+    {
+        (46..=4096).contains(&self.bytes.len())
+            && usize::from(self.section_length) + 3 == self.bytes.len()
+    }
+
+    fn is_headed(&self) -> bool
+        ensures value { result ≡ headed self.now.bytes.now }
+    {
+        self.table_id == 0xD8
+            && self.syntax == 2
+            && self.extension == 0
+            && self.current == 1
+            && self.section_number == 0
+            && self.last_section_number == 0
+    }
+
+    fn is_checked(&self) -> bool
+        ensures value { result ≡ checks self.now.bytes.now }
+    {
+        check_word(self.bytes) == 0
+    }
+
+    fn is_versioned(&self) -> bool
+        ensures value { result ≡ versioned self.now.bytes.now }
+    {
+        self.protocol_version == 0
+    }
 }
 
-fn is_headed(bytes: &[u8], head: &Head<'_>) -> bool
-    requires { Heads head.now bytes.now }
-    ensures { result ≡ headed bytes.now }
-{
-    head.table_id == 0xD8
-        && head.syntax == 2
-        && head.extension == 0
-        && head.current == 1
-        && head.section_number == 0
-        && head.last_section_number == 0
-}
+impl<'a> Laid<'a> {
+    // The stated lengths add up to the section.
+    fn is_added(&self) -> bool
+        ensures value { result ≡ adds self.now.bytes.now }
+    {
+        self.bytes.len().checked_sub(4) == Some(self.layout.descriptors.end)
+    }
 
-fn is_checked(bytes: &[u8]) -> bool
-    ensures { result ≡ checks bytes.now }
-{
-    check_word(bytes) == 0
-}
-
-fn is_versioned(bytes: &[u8], head: &Head<'_>) -> bool
-    requires { Heads head.now bytes.now }
-    ensures { result ≡ versioned bytes.now }
-{
-    head.protocol_version == 0
-}
-
-fn is_added(bytes: &[u8], layout: &Layout) -> bool
-    requires layout_value { layout.now ≡ layout_of bytes.now }
-    requires in_bounds { 4 ≤ length bytes.now }
-    ensures { result ≡ adds bytes.now }
-{
-    layout.descriptors.end == bytes.len() - 4
-}
-
-fn is_spelled(bytes: &[u8], layout: &Layout) -> bool
-    requires { layout.now ≡ layout_of bytes.now }
-    ensures { result ≡ spelled bytes.now }
-{
-    let nature = is_structured(part_of(bytes, layout.nature));
-    let alert = is_structured(part_of(bytes, layout.alert));
-    nature && alert
+    fn is_spelled(&self) -> bool
+        ensures value { result ≡ spelled self.now.bytes.now }
+    {
+        let nature = is_structured(part_of(self.bytes, self.layout.nature));
+        let alert = is_structured(part_of(self.bytes, self.layout.alert));
+        nature && alert
+    }
 }
 
 // The layout of a section that breaks no rule, or the first rule that is broken.
-pub(crate) fn check(bytes: &[u8]) -> Result<Layout, SectionRefusal>
-    ensures { result ≡ or_refused (broken bytes.now) (layout_of bytes.now) }
+pub(crate) fn check(bytes: &[u8]) -> Result<Laid<'_>, SectionRefusal>
+    ensures cases { MatchResult result (λ l. (broken bytes.now ≡ None) × (l.bytes.now ≡ bytes.now)) (λ e. broken bytes.now ≡ Some e) }
 {
-    let Some(head) = split_head(bytes) else {
-        return Err(SectionRefusal::Length);
-    };
-    if !is_sized(bytes, &head) {
+    let head = split_head(bytes).ok_or(SectionRefusal::Length)?;
+    if !head.is_sized() {
         return Err(SectionRefusal::Length);
     }
-    if !is_headed(bytes, &head) {
+    if !head.is_headed() {
         return Err(SectionRefusal::Head);
     }
-    if !is_checked(bytes) {
+    if !head.is_checked() {
         return Err(SectionRefusal::CheckWord);
     }
-    if !is_versioned(bytes, &head) {
+    if !head.is_versioned() {
         return Err(SectionRefusal::Version);
     }
-    let layout = lay_out(bytes);
-    if !is_added(bytes, &layout) {
+    let laid = lay_out(bytes);
+    if !laid.is_added() {
         return Err(SectionRefusal::Layout);
     }
-    if !is_ranged(bytes, &layout) {
+    if !laid.is_ranged() {
         return Err(SectionRefusal::Range);
     }
-    if !is_spelled(bytes, &layout) {
+    if !laid.is_spelled() {
         return Err(SectionRefusal::Text);
     }
-    Ok(layout)
+    Ok(laid)
 }

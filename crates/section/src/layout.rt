@@ -1,4 +1,5 @@
 // The places of a section's parts.
+// std's range is not `Copy`, and a section with its layout is.
 #[derive(Clone, Copy)]
 pub struct Span {
     pub start: usize,

@@ -6,6 +6,7 @@ mod check;
 mod decode;
 mod fields;
 mod head;
+mod laid;
 mod layout;
 mod part;
 mod ranges;

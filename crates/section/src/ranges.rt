@@ -1,53 +1,54 @@
 // The ranges that a section's numbers keep.
-ghost use Rattle.std.specs.Prelude.{◌≡◌, ℕ, ◌+◌, ◌-◌, ◌*◌, ◌/◌, ◌%◌, ◌^◌, ◌<◌, ◌≤◌, true, false, length};
-ghost use Rattle.section.specs.Places.{layout_of, locations_of};
+ghost use Rattle.std.specs.Prelude.{◌≡◌, drop};
 ghost use Rattle.section.specs.Rules.{located, all_located, bounded, ranged};
 
-use super::bytes::{byte_at, part_of};
-use super::layout::{Layout, Span};
+use super::bytes::part_of;
+use super::laid::Laid;
+use octets::{byte_at, ten_bits};
 
 // One location entry, at the front.
 fn is_located(entry: &[u8]) -> bool
-    ensures { result ≡ located entry.now }
+    ensures value { result ≡ located entry.now }
 {
-    let county = u16::from(byte_at(entry, 1) % 4) * 256 + u16::from(byte_at(entry, 2));
-    byte_at(entry, 0) <= 99 && byte_at(entry, 1) / 16 <= 9 && county <= 999
+    byte_at(entry, 0) <= 99 && byte_at(entry, 1) / 16 <= 9 && ten_bits(entry, 1) <= 999
+}
+
+// What follows an entry.
+fn after_entry(entries: &[u8]) -> &[u8]
+    ensures value { result.now ≡ drop 3 entries.now }
+{
+    entries.get(3..).unwrap_or(&[])
 }
 
 // So many location entries, one after another.
 fn all_located(count: u8, entries: &[u8]) -> bool
-    ensures { result ≡ all_located count entries.now }
+    ensures value { result ≡ all_located count entries.now }
 {
     let mut rest = entries;
+    // Entries past the bytes are zeros and count as well, so no chunks of the slice would do.
     for _ in 0..count {
         if !is_located(rest) {
             return false;
         }
-        rest = part_of(
-            rest,
-            Span {
-                start: 3,
-                end: rest.len(),
-            },
-        );
+        rest = after_entry(rest);
     }
     true
 }
 
 // The alert's seconds and the number of its location entries.
 fn is_bounded(seconds: u8, count: u8) -> bool
-    ensures { result ≡ bounded seconds count }
+    ensures value { result ≡ bounded seconds count }
 {
-    seconds <= 120 && 1 <= count && count <= 31
+    seconds <= 120 && (1..=31).contains(&count)
 }
 
-// Seconds, the number of location entries, and each of them.
-pub(crate) fn is_ranged(bytes: &[u8], layout: &Layout) -> bool
-    requires { layout.now ≡ layout_of bytes.now }
-    ensures { result ≡ ranged bytes.now }
-{
-    if !is_bounded(byte_at(bytes, layout.times), layout.location_count) {
-        return false;
+impl<'a> Laid<'a> {
+    // Seconds, the number of location entries, and each of them.
+    pub(crate) fn is_ranged(&self) -> bool
+        ensures value { result ≡ ranged self.now.bytes.now }
+    {
+        let count = self.layout.location_count;
+        is_bounded(byte_at(self.bytes, self.layout.times), count)
+            && all_located(count, part_of(self.bytes, self.layout.locations))
     }
-    all_located(layout.location_count, part_of(bytes, layout.locations))
 }

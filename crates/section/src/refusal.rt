@@ -1,10 +1,13 @@
 // Why a section, or a question about its text, is refused.
 ghost use Rattle.std.specs.Prelude.{◌≡◌, Some};
+ghost use Rattle.section.specs.declared.refusal.QuestionRefusal.TheVariants.{Section};
+ghost use Rattle.section.specs.declared.refusal.SectionRefusal.TheVariants.{Text};
 ghost use Rattle.section.specs.Refusals.{number, words, question_number, question_words};
 
 use std::fmt;
+use text::TextRefusal;
 
-#[derive(Clone, Copy, PartialEq, Eq)]
+#[derive(Clone, Copy, PartialEq, Eq, Debug)]
 pub enum SectionRefusal {
     // too short, too long, or not as long as the head states
     Length,
@@ -22,11 +25,28 @@ pub enum SectionRefusal {
     Text,
 }
 
-#[derive(Clone, Copy, PartialEq, Eq)]
+#[derive(Clone, Copy, PartialEq, Eq, Debug)]
 pub enum QuestionRefusal {
     Section(SectionRefusal),
     // the buffer is shorter than the text
     Short,
+}
+
+// A text that cannot be read breaks its structure.
+impl From<TextRefusal> for SectionRefusal {
+    ghost from_gives = { λ _ e. e ≡ Text };
+
+    fn from(_e: TextRefusal) -> SectionRefusal {
+        SectionRefusal::Text
+    }
+}
+
+impl From<SectionRefusal> for QuestionRefusal {
+    ghost from_gives = { λ e r. r ≡ Section e };
+
+    fn from(refusal: SectionRefusal) -> QuestionRefusal {
+        QuestionRefusal::Section(refusal)
+    }
 }
 
 impl SectionRefusal {
@@ -60,6 +80,7 @@ impl SectionRefusal {
     }
 }
 
+// By hand, as the other: what a derive writes has no contract, and this text is proved.
 impl fmt::Display for SectionRefusal {
     ghost output = { λ e. Some (words e) };
 

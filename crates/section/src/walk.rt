@@ -1,20 +1,22 @@
 // Where the parts stand, from the lengths that a section states.
-ghost use Rattle.std.specs.Prelude.{◌≡◌, ℕ, ◌+◌, ◌-◌, ◌*◌, ◌%◌, ◌^◌, ◌<◌, ◌≤◌, length};
-ghost use Rattle.section.specs.Places.{after, layout_of};
+ghost use Rattle.std.specs.Prelude.{◌≡◌, ◌+◌, ◌*◌, ◌^◌, ◌<◌, ◌≤◌};
+ghost use Rattle.section.specs.Places.{after};
 
-use super::bytes::{byte_at, word_at};
+use super::laid::Laid;
 use super::layout::{Layout, Span};
+use octets::{byte_at, word_at};
 
 // The place after a count at `at` and that many entries of `unit` bytes.
 fn after_counted(bytes: &[u8], at: usize, unit: usize) -> usize
     requires { (at < 2 ^ 32) × (unit ≤ 5) }
-    ensures { result ≡ after unit bytes.now at }
+    ensures value { result ≡ after unit bytes.now at }
+    ensures bound { result ≤ at + 1 + unit * 255 }
 {
     at + 1 + unit * usize::from(byte_at(bytes, at))
 }
 
-pub(crate) fn lay_out(bytes: &[u8]) -> Layout
-    ensures { result ≡ layout_of bytes.now }
+pub(crate) fn lay_out(bytes: &[u8]) -> Laid<'_>
+    ensures value { result.bytes.now ≡ bytes.now }
 {
     let nature = after_counted(bytes, 14, 1);
     let times = after_counted(bytes, nature, 1);
@@ -23,7 +25,7 @@ pub(crate) fn lay_out(bytes: &[u8]) -> Layout
     let exceptions = after_counted(bytes, locations, 3);
     let descriptors = after_counted(bytes, exceptions, 5);
     let check_word = descriptors + 2 + usize::from(word_at(bytes, descriptors) % 1024);
-    Layout {
+    let layout = Layout {
         event_code: Span {
             start: 15,
             end: nature,
@@ -50,5 +52,6 @@ pub(crate) fn lay_out(bytes: &[u8]) -> Layout
             start: descriptors + 2,
             end: check_word,
         },
-    }
+    };
+    Laid { bytes, layout }
 }

@@ -1,5 +1,10 @@
 // What a line of input asks for.
-use lines::{HexRefusal, LineBuffer, Tail};
+ghost use Rattle.std.specs.Prelude.{◌≡◌, ◌^◌, ◌<◌, ◌≤◌, length};
+ghost use Rattle.lines.specs.Ends.{unreturned};
+ghost use Rattle.lines.specs.Held.{OfLine};
+ghost use Rattle.sectiondump.specs.Asks.{line_asks, room_after};
+
+use lines::{LineBuffer, hex_value, is_comment};
 
 // No well-formed section is longer.
 pub const ROOM: usize = 4096;
@@ -13,48 +18,15 @@ pub enum Asked {
     Unknown,
 }
 
-// The size of a section of which only the first digits are held.
-fn long_size(held: &[u8], line: &LineBuffer) -> Option<u64> {
-    let past = match line.tail() {
-        Tail::Digits => line.past(),
-        Tail::Returned => line.past().saturating_sub(1),
-        Tail::Other => return None,
-    };
-    let digits = past.checked_add(held.len() as u64)?;
-    if lines::all_digits(held) && digits % 2 == 0 {
-        Some(digits / 2)
-    } else {
-        None
-    }
-}
-
-// The size of a section whose digits are held, and its bytes in the room.
-fn whole_size(held: &[u8], room: &mut [u8]) -> Option<u64> {
-    match lines::decode(held, room) {
-        Ok(n) => Some(n as u64),
-        Err(HexRefusal::Room) => Some(held.len() as u64 / 2),
-        Err(_) => None,
-    }
-}
-
-pub fn read(line: &LineBuffer, room: &mut [u8; ROOM]) -> Asked {
-    let held = if line.is_whole() {
-        lines::without_return(line.bytes())
-    } else {
-        line.bytes()
-    };
-    if held.is_empty() || held[0] == b'#' {
+// What the line asks for. The bytes of a section are then at the front of the room, if it is large enough.
+pub fn read(line: &LineBuffer, room: &mut [u8]) -> Asked
+    ensures value { OfLine line.now (λ text. length text < 2 ^ 64 → 8 ≤ line.now.most → result ≡ line_asks (unreturned text)) }
+    ensures after { OfLine line.now (λ text. room.new ≡ room_after line.now.most room.old text result) }
+{
+    if is_comment(line) {
         return Asked::Nothing;
     }
-    let Some(digits) = held.strip_prefix(b"section=") else {
-        return Asked::Unknown;
-    };
-    let size = if line.is_whole() {
-        whole_size(digits, &mut room[..])
-    } else {
-        long_size(digits, line)
-    };
-    match size {
+    match hex_value(line, b"section=", room) {
         Some(size) => Asked::Section(size),
         None => Asked::Unknown,
     }

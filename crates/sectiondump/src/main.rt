@@ -6,6 +6,7 @@ mod print;
 
 use input::{Asked, ROOM};
 use lines::LineBuffer;
+use print::Heading;
 use records::Record;
 use section::{Section, SectionRefusal};
 use std::alloc::AllocError;
@@ -26,16 +27,19 @@ fn answer(
     match asked {
         Asked::Nothing => Ok(()),
         Asked::Unknown => {
-            out.text(b"call=none line=")?;
-            out.number(line)?;
+            out.field(b"call=none line=", line)?;
             out.text(b"\n")
         }
         Asked::Section(size) => {
-            if size > ROOM as u64 {
-                return print::refused(out, section, size, SectionRefusal::Length);
+            let heading = Heading {
+                number: section,
+                size,
+            };
+            let held = usize::try_from(size).ok().and_then(|size| room.get(..size));
+            match held {
+                Some(bytes) => print::section(out, heading, &Section::read(bytes)),
+                None => print::refused(out, heading, SectionRefusal::Length),
             }
-            let bytes = &room[0..size as usize];
-            print::section(out, section, size, &Section::read(bytes))
         }
     }
 }
@@ -55,7 +59,7 @@ fn run(rt: &HostRuntime) -> io::Result<()> {
         if !lines::next_line(&mut input, &mut line)? {
             break;
         }
-        let asked = input::read(&line, &mut room);
+        let asked = input::read(&line, &mut room[..]);
         if let Asked::Section(_) = asked {
             sections = sections.saturating_add(1);
         }

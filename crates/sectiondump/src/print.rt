@@ -5,7 +5,14 @@ use section::{Fields, Part, Section, SectionRefusal};
 use std::alloc::AllocError;
 use text::Text;
 
-// The numbers and parts that are printed of a section.
+// Which section of the input it is, from 1, and how many bytes it has.
+#[derive(Clone, Copy)]
+pub struct Heading {
+    pub number: u64,
+    pub size: u64,
+}
+
+// What is printed of a section.
 #[derive(Clone, Copy)]
 struct Contents<'a> {
     fields: Fields,
@@ -13,6 +20,8 @@ struct Contents<'a> {
     locations: Part<'a>,
     exceptions: Part<'a>,
     descriptors: Part<'a>,
+    nature: Text,
+    text: Text,
 }
 
 fn contents_of<'a>(section: &Section<'a>) -> Result<Contents<'a>, SectionRefusal> {
@@ -22,25 +31,23 @@ fn contents_of<'a>(section: &Section<'a>) -> Result<Contents<'a>, SectionRefusal
         locations: section.locations()?,
         exceptions: section.exceptions()?,
         descriptors: section.descriptors()?,
+        nature: section.nature_text()?,
+        text: section.text()?,
     })
 }
 
-fn opening(out: &mut Record, number: u64, size: u64) -> Result<(), AllocError> {
-    out.text(b"section=")?;
-    out.number(number)?;
-    out.text(b" bytes=")?;
-    out.number(size)
+fn opening(out: &mut Record, heading: Heading) -> Result<(), AllocError> {
+    out.field(b"section=", heading.number)?;
+    out.field(b" bytes=", heading.size)
 }
 
 pub fn refused(
     out: &mut Record,
-    number: u64,
-    size: u64,
+    heading: Heading,
     refusal: SectionRefusal,
 ) -> Result<(), AllocError> {
-    opening(out, number, size)?;
-    out.text(b" refused=")?;
-    out.number(u64::from(refusal.number()))?;
+    opening(out, heading)?;
+    out.field(b" refused=", u64::from(refusal.number()))?;
     out.text(b" ")?;
     out.text(refusal.cause().as_bytes())?;
     out.text(b"\n")
@@ -48,78 +55,59 @@ pub fn refused(
 
 pub fn section(
     out: &mut Record,
-    number: u64,
-    size: u64,
+    heading: Heading,
     section: &Section<'_>,
 ) -> Result<(), AllocError> {
-    let contents = match contents_of(section) {
-        Ok(contents) => contents,
-        Err(refusal) => return refused(out, number, size, refusal),
-    };
-    let nature = match section.nature_text() {
-        Ok(nature) => nature,
-        Err(refusal) => return refused(out, number, size, refusal),
-    };
-    let text = match section.text() {
-        Ok(text) => text,
-        Err(refusal) => return refused(out, number, size, refusal),
-    };
-    opening(out, number, size)?;
-    out.text(b" taken")?;
-    taken(out, &contents, &nature, &text)
+    match contents_of(section) {
+        Ok(contents) => taken(out, heading, &contents),
+        Err(refusal) => refused(out, heading, refusal),
+    }
 }
 
 // Each line begins with the line feed of the one before.
-fn taken(out: &mut Record, c: &Contents<'_>, nature: &Text, text: &Text) -> Result<(), AllocError> {
+fn taken(out: &mut Record, heading: Heading, c: &Contents<'_>) -> Result<(), AllocError> {
+    opening(out, heading)?;
+    out.text(b" taken")?;
     identity(out, c)?;
     out.text(b"\n  nature=")?;
-    out.text(nature.as_bytes())?;
+    out.text(c.nature.as_bytes())?;
     times(out, &c.fields)?;
     services(out, &c.fields)?;
     out.text(b"\n  text=")?;
-    out.text(text.as_bytes())?;
+    out.text(c.text.as_bytes())?;
     locations(out, c.locations.bytes)?;
     exceptions(out, c.exceptions.bytes)?;
-    field(out, b"\n  descriptors=", c.descriptors.bytes.len() as u64)?;
-    field(out, b" at=", c.descriptors.at as u64)?;
+    // here and below: as in Rust there is no `From<usize>` for `u64`
+    out.field(b"\n  descriptors=", c.descriptors.bytes.len() as u64)?;
+    out.field(b" at=", c.descriptors.at as u64)?;
     out.text(b"\n")
 }
 
-fn field(out: &mut Record, key: &[u8], number: u64) -> Result<(), AllocError> {
-    out.text(key)?;
-    out.number(number)
-}
-
 fn identity(out: &mut Record, c: &Contents<'_>) -> Result<(), AllocError> {
-    field(out, b"\n  sequence=", u64::from(c.fields.sequence.0))?;
-    field(out, b"\n  event_id=", u64::from(c.fields.event_id.0))?;
+    out.field(b"\n  sequence=", u64::from(c.fields.sequence.0))?;
+    out.field(b"\n  event_id=", u64::from(c.fields.event_id.0))?;
     out.text(b"\n  originator=")?;
     code(out, &c.fields.originator)?;
     out.text(b"\n  event_code=")?;
     code(out, c.event_code.bytes)?;
-    field(out, b" at=", c.event_code.at as u64)
+    out.field(b" at=", c.event_code.at as u64)
 }
 
 fn times(out: &mut Record, fields: &Fields) -> Result<(), AllocError> {
-    field(out, b"\n  seconds=", u64::from(fields.seconds.0))?;
-    field(out, b"\n  start=", u64::from(fields.start.0))?;
-    field(out, b"\n  duration=", u64::from(fields.duration.0))?;
-    field(out, b"\n  priority=", u64::from(fields.priority.0))
+    out.field(b"\n  seconds=", u64::from(fields.seconds.0))?;
+    out.field(b"\n  start=", u64::from(fields.start.0))?;
+    out.field(b"\n  duration=", u64::from(fields.duration.0))?;
+    out.field(b"\n  priority=", u64::from(fields.priority.0))
 }
 
 fn services(out: &mut Record, fields: &Fields) -> Result<(), AllocError> {
-    field(
-        out,
-        b"\n  details_source=",
-        u64::from(fields.details_source.0),
-    )?;
-    field(
-        out,
+    out.field(b"\n  details_source=", u64::from(fields.details_source.0))?;
+    out.field(
         b"\n  details_channel=",
         u64::from(fields.details_channel.major),
     )?;
-    field(out, b"-", u64::from(fields.details_channel.minor))?;
-    field(out, b"\n  audio_source=", u64::from(fields.audio_source.0))
+    out.field(b"-", u64::from(fields.details_channel.minor))?;
+    out.field(b"\n  audio_source=", u64::from(fields.audio_source.0))
 }
 
 // As text where every byte is a visible character, else in hexadecimal.
@@ -135,21 +123,16 @@ fn code(out: &mut Record, bytes: &[u8]) -> Result<(), AllocError> {
 }
 
 fn is_visible(bytes: &[u8]) -> bool {
-    for byte in bytes {
-        if *byte < 0x21 || *byte > 0x7E {
-            return false;
-        }
-    }
-    true
+    bytes.iter().all(u8::is_ascii_graphic)
 }
 
 fn locations(out: &mut Record, bytes: &[u8]) -> Result<(), AllocError> {
     let (entries, _) = bytes.as_chunks::<3>();
     for entry in entries {
         let location = Location::read(entry);
-        field(out, b"\n  location=", u64::from(location.state))?;
-        field(out, b"-", u64::from(location.county))?;
-        field(out, b"-", u64::from(location.part))?;
+        out.field(b"\n  location=", u64::from(location.state))?;
+        out.field(b"-", u64::from(location.county))?;
+        out.field(b"-", u64::from(location.part))?;
     }
     Ok(())
 }
@@ -165,9 +148,9 @@ fn exceptions(out: &mut Record, bytes: &[u8]) -> Result<(), AllocError> {
 fn exception(out: &mut Record, entry: Exception) -> Result<(), AllocError> {
     match entry {
         Exception::Channel(pair) => {
-            field(out, b"\n  exception=channel:", u64::from(pair.major))?;
-            field(out, b"-", u64::from(pair.minor))
+            out.field(b"\n  exception=channel:", u64::from(pair.major))?;
+            out.field(b"-", u64::from(pair.minor))
         }
-        Exception::Source(id) => field(out, b"\n  exception=source:", u64::from(id.0)),
+        Exception::Source(id) => out.field(b"\n  exception=source:", u64::from(id.0)),
     }
 }

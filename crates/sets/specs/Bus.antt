@@ -3,7 +3,7 @@ use Rattle.std.specs.Prelude.{ℕ, zero, suc, ◌+◌, false, List, [], ◌∷�
 use Rattle.station.specs.declared.service.Service.{Service}
 use Rattle.sets.specs.declared.bus.StudioBus.{StudioBus}
 use Rattle.sets.specs.declared.sound.Sound.TheVariants.{Own}
-use Rattle.sets.specs.Captions.{written}
+use Rattle.octets.specs.Held.{held}
 use Rattle.sets.specs.Meaning.{Meaning}
 
 -- input k has the pair (k + 1, 0), no source ID and no marks
@@ -23,7 +23,7 @@ inputs k zero = []
 inputs k (suc n) = input k ∷ inputs (k + 1) n
 
 abbrev pub bus_meaning : StudioBus → Meaning
-bus_meaning b = record { services = inputs 0 16; shown = b.shown; sound = Own; caption = written b.caption }
+bus_meaning b = record { services = inputs 0 16; shown = b.shown; sound = Own; caption = held b.caption }
 
 abbrev pub new_bus : Meaning
 new_bus = record { services = inputs 0 16; shown = 0; sound = Own; caption = [] }

@@ -1,16 +1,12 @@
 -- That the sets of this crate are lawful: proofs that the ghost members hold, which can cite nothing outside specs. Assumes nothing.
-use Rattle.std.proofs.Common.{arith, length-take}
-use Rattle.std.specs.Prelude.{◌≤◌, length, refl}
+use Rattle.std.proofs.Common.{arith}
+use Rattle.std.specs.Prelude.{refl}
 use Rattle.sets.specs.declared.bus.StudioBus.{StudioBus}
-use Rattle.sets.specs.declared.caption.Caption.{Caption}
 use Rattle.sets.specs.declared.map.ChannelMap.{ChannelMap}
 use Rattle.sets.specs.Bus.{bus_meaning}
-use Rattle.sets.specs.Captions.{written}
+use Rattle.octets.specs.Bounds.{held_short}
 use Rattle.sets.specs.Maps.{map_meaning}
 use Rattle.sets.specs.Meaning.{Lawful}
-
-pub written_short : (c : Caption) → length (written c) ≤ 1024
-written_short c = omega (arith, length-take c.len c.bytes, c.short)
 
 pub bus_lawful : (b : StudioBus) → Lawful (bus_meaning b)
 bus_lawful b =
@@ -19,7 +15,7 @@ bus_lawful b =
       few = omega arith;
       inside = b.inside;
       heard = refl;
-      short = written_short b.caption;
+      short = held_short b.caption;
     }
 
 pub map_lawful : (m : ChannelMap) → Lawful (map_meaning m)
@@ -29,5 +25,5 @@ map_lawful m =
       few = m.few;
       inside = m.inside;
       heard = m.heard;
-      short = written_short m.caption;
+      short = held_short m.caption;
     }

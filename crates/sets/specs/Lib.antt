@@ -1,6 +1,5 @@
 pub mod Refusals
 pub mod Meaning
-pub mod Captions
 pub mod Bus
 pub mod Tables
 pub mod Maps

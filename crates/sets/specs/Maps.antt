@@ -4,7 +4,7 @@ use Rattle.station.specs.declared.service.Service.{Service}
 use Rattle.sets.specs.declared.map.ChannelMap.{ChannelMap}
 use Rattle.sets.specs.declared.refusal.TableRefusal.{TableRefusal}
 use Rattle.sets.specs.declared.sound.Sound.TheVariants.{Own}
-use Rattle.sets.specs.Captions.{written}
+use Rattle.octets.specs.Held.{held}
 use Rattle.sets.specs.Meaning.{Meaning}
 use Rattle.sets.specs.Tables.{table_refusal}
 
@@ -20,7 +20,7 @@ bare =
     }
 
 abbrev pub map_meaning : ChannelMap → Meaning
-map_meaning m = record { services = m.table.now; shown = m.shown; sound = m.sound; caption = written m.caption }
+map_meaning m = record { services = m.table.now; shown = m.shown; sound = m.sound; caption = held m.caption }
 
 -- these services, one of them shown with its own sound, and no caption
 abbrev pub freshly : List Service → ℕ → Meaning

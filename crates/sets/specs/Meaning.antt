@@ -1,5 +1,5 @@
 -- What a set means, and what each of its calls does to that. Assumes nothing.
-use Rattle.std.specs.Prelude.{◌≡◌, ℕ, zero, suc, ◌<◌, ◌≤◌, Bool, true, false, List, [], ◌∷◌, length, Some, None, Ok, Err, Option, Result}
+use Rattle.std.specs.Prelude.{◌≡◌, ℕ, ◌<◌, ◌≤◌, Bool, true, false, List, length, Some, None, Ok, Err, Option, Result, slice_get}
 use Rattle.station.specs.declared.service.Service.{Service}
 use Rattle.sets.specs.declared.refusal.SetRefusal.{SetRefusal}
 use Rattle.sets.specs.declared.refusal.SetRefusal.TheVariants.{PastTheList, NotApart, CaptionTooLong}
@@ -18,9 +18,7 @@ count_of m = length m.services
 
 -- the service of a number, none past the list
 abbrev pub service_at : List Service → ℕ → Option Service
-service_at [] n = None
-service_at (s ∷ ss) zero = Some s
-service_at (s ∷ ss) (suc n) = service_at ss n
+service_at ss n = slice_get ss n
 
 -- whether there is one, and its sound can be heard apart from its picture
 abbrev pub is_apart : Option Service → Bool

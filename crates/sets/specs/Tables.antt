@@ -1,5 +1,6 @@
 -- The rules of a table of services with its start, and which of them is broken first. Assumes nothing.
-use Rattle.std.specs.Prelude.{◌≡◌, ℕ, Bool, true, cond, ◌&&◌, List, [], ◌∷◌, length, Some, None, Ok, Err, Option, Result, nat_le, nat_lt}
+use Rattle.std.specs.Prelude.{◌≡◌, ℕ, Bool, cond, ◌&&◌, List, length, Some, None, Ok, Err, Option, Result, nat_le, nat_lt}
+use Rattle.std.specs.List.{list_all}
 use Rattle.station.specs.declared.service.Service.{Service}
 use Rattle.sets.specs.declared.refusal.TableRefusal.{TableRefusal}
 use Rattle.sets.specs.declared.refusal.TableRefusal.TheVariants.{Size, ChannelNumber, Start}
@@ -13,8 +14,7 @@ abbrev pub numbered : Service → Bool
 numbered s = nat_le s.channel.major 1023 && nat_le s.channel.minor 1023
 
 abbrev pub all_numbered : List Service → Bool
-all_numbered [] = true
-all_numbered (s ∷ table) = numbered s && all_numbered table
+all_numbered table = list_all numbered table
 
 -- the start is one of them
 abbrev pub starts_in : List Service → ℕ → Bool

@@ -1,10 +1,12 @@
 // Why a set refuses a call, and why a table makes no set.
 ghost use Rattle.std.specs.Prelude.{◌≡◌, Some};
+ghost use Rattle.sets.specs.declared.refusal.SetRefusal.TheVariants.{CaptionTooLong};
 ghost use Rattle.sets.specs.Refusals.{refusal_number, refusal_words, table_number, table_words};
 
+use octets::Full;
 use std::fmt;
 
-#[derive(Clone, Copy, PartialEq, Eq)]
+#[derive(Clone, Copy, PartialEq, Eq, Debug)]
 pub enum SetRefusal {
     // no service has the number
     PastTheList,
@@ -38,6 +40,7 @@ impl SetRefusal {
     }
 }
 
+// By hand, as the other: what a derive writes has no contract, and this text is proved.
 impl fmt::Display for SetRefusal {
     ghost output = { λ e. Some (refusal_words e) };
 
@@ -46,7 +49,16 @@ impl fmt::Display for SetRefusal {
     }
 }
 
-#[derive(Clone, Copy, PartialEq, Eq)]
+// More bytes than a caption has room for.
+impl From<Full> for SetRefusal {
+    ghost from_gives = { λ _ e. e ≡ CaptionTooLong };
+
+    fn from(_full: Full) -> SetRefusal {
+        SetRefusal::CaptionTooLong
+    }
+}
+
+#[derive(Clone, Copy, PartialEq, Eq, Debug)]
 pub enum TableRefusal {
     // no service, or more than 256
     Size,

@@ -1,5 +1,5 @@
 // Whose sound is heard.
-#[derive(Clone, Copy, PartialEq, Eq)]
+#[derive(Clone, Copy, PartialEq, Eq, Debug)]
 pub enum Sound {
     // that of the service shown
     Own,

@@ -2,13 +2,14 @@
 ghost use Rattle.std.specs.Prelude.{◌≡◌, true, false};
 ghost use Rattle.sets.specs.Tables.{sized, numbered, all_numbered, table_refusal, Checks};
 
+use super::map::ChannelMap;
 use super::refusal::TableRefusal;
 use station::Service;
 
 fn is_sized(table: &[Service]) -> bool
     ensures value { result ≡ sized table.now }
 {
-    1 <= table.len() && table.len() <= 256
+    (1..=256).contains(&table.len())
 }
 
 fn is_numbered(service: &Service) -> bool
@@ -20,26 +21,23 @@ fn is_numbered(service: &Service) -> bool
 fn all_numbered(table: &[Service]) -> bool
     ensures value { result ≡ all_numbered table.now }
 {
-    for service in table {
-        if !is_numbered(service) {
-            return false;
-        }
-    }
-    true
+    table.iter().all(is_numbered)
 }
 
-// The first rule that is broken, if any is.
-pub fn check(table: &[Service], start: usize) -> Result<(), TableRefusal>
-    ensures cases { Checks (table_refusal table.now start) result }
-{
-    if !is_sized(table) {
-        return Err(TableRefusal::Size);
+impl<'a> ChannelMap<'a> {
+    // Whether a map over the table can start there, and if not the first rule that is broken.
+    pub fn check(table: &[Service], start: usize) -> Result<(), TableRefusal>
+        ensures cases { Checks (table_refusal table.now start) result }
+    {
+        if !is_sized(table) {
+            return Err(TableRefusal::Size);
+        }
+        if !all_numbered(table) {
+            return Err(TableRefusal::ChannelNumber);
+        }
+        if start >= table.len() {
+            return Err(TableRefusal::Start);
+        }
+        Ok(())
     }
-    if !all_numbered(table) {
-        return Err(TableRefusal::ChannelNumber);
-    }
-    if start >= table.len() {
-        return Err(TableRefusal::Start);
-    }
-    Ok(())
 }

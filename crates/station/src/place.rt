@@ -6,7 +6,7 @@ ghost use Rattle.station.specs.declared.refusal.PlaceRefusal.TheVariants.{Range}
 use super::refusal::PlaceRefusal;
 
 // A part of 0 is not known.
-#[derive(Clone, Copy, PartialEq, Eq)]
+#[derive(Clone, Copy, PartialEq, Eq, Debug)]
 pub struct Place {
     pub state: u8,
     pub county: u16,
@@ -23,7 +23,7 @@ impl Place {
     pub fn new(state: u8, county: u16, part: u8) -> Result<Place, PlaceRefusal>
         ensures cases { MatchResult result (λ p. (ranged state county part ≡ true) × (p.state ≡ state) × (p.county ≡ county) × (p.part ≡ part)) (λ e. (ranged state county part ≡ false) × (e ≡ Range)) }
     {
-        if 1 <= state && state <= 99 && 1 <= county && county <= 999 && part <= 9 {
+        if (1..=99).contains(&state) && (1..=999).contains(&county) && part <= 9 {
             Ok(Place {
                 state,
                 county,

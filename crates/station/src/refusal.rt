@@ -4,7 +4,7 @@ ghost use Rattle.station.specs.Refusals.{number as number_of, words};
 
 use std::fmt;
 
-#[derive(Clone, Copy, PartialEq, Eq)]
+#[derive(Clone, Copy, PartialEq, Eq, Debug)]
 pub enum PlaceRefusal {
     // the state, the county or the part is out of its range
     Range,
@@ -30,6 +30,7 @@ impl PlaceRefusal {
     }
 }
 
+// By hand: what a derive writes has no contract, and this text is proved.
 impl fmt::Display for PlaceRefusal {
     ghost output = { λ e. Some (words e) };
 

@@ -1,23 +1,44 @@
 // Services and what names them.
-// 0 for none
-#[derive(Clone, Copy, PartialEq, Eq)]
+ghost use Rattle.std.specs.Prelude.{◌≡◌};
+ghost use Rattle.station.specs.Names.{is_pair, is_id};
+
+// 0 for none, as it is sent: an option would have to be made and taken apart wherever it is read or printed.
+#[derive(Clone, Copy, PartialEq, Eq, Debug)]
 pub struct SourceId(pub u16);
 
-// each number to 1,023, both 0 for none
-#[derive(Clone, Copy, PartialEq, Eq)]
+// each number to 1,023, both 0 for none, as they are sent
+#[derive(Clone, Copy, PartialEq, Eq, Debug)]
 pub struct ChannelPair {
     pub major: u16,
     pub minor: u16,
 }
 
+impl SourceId {
+    // Whether it is that very ID, and is one at all.
+    pub fn names(self, id: SourceId) -> bool
+        ensures value { result ≡ is_id self id }
+    {
+        self != SourceId(0) && self == id
+    }
+}
+
+impl ChannelPair {
+    // Whether it is that very pair, and is one at all.
+    pub fn names(self, pair: ChannelPair) -> bool
+        ensures value { result ≡ is_pair self pair }
+    {
+        self != ChannelPair { major: 0, minor: 0 } && self == pair
+    }
+}
+
 // How alerts reach the receiver.
-#[derive(Clone, Copy)]
+#[derive(Clone, Copy, PartialEq, Eq, Debug)]
 pub enum Path {
     InBand,
     OutOfBand,
 }
 
-#[derive(Clone, Copy)]
+#[derive(Clone, Copy, PartialEq, Eq, Debug)]
 pub struct Service {
     pub source: SourceId,
     pub channel: ChannelPair,

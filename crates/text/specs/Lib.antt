@@ -4,4 +4,4 @@ pub mod Refusals
 pub mod Said
 pub mod Writing
 pub mod Filling
-pub mod Choosing
+pub mod Seen

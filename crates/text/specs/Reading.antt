@@ -1,5 +1,6 @@
 -- What a text field says in English. Assumes nothing.
-use Rattle.std.specs.Prelude.{ℕ, ◌+◌, ◌-◌, ◌*◌, Bool, true, cond, ◌&&◌, ◌||◌, List, [], ◌∷◌, ◌++◌, map, length, ◌==◌, nat_le, slice_index}
+use Rattle.std.specs.Prelude.{ℕ, ◌+◌, ◌-◌, ◌*◌, Bool, cond, ◌&&◌, ◌||◌, List, [], ◌∷◌, ◌++◌, map, length, Some, None, Option, ◌==◌, nat_le, slice_index}
+use Rattle.std.specs.List.{find, list_all}
 use Rattle.std.proofs.Math.Utf8.{encode}
 use Rattle.text.specs.Structure.{Segment, Spoken, strings_of}
 
@@ -9,8 +10,7 @@ readable g = g.compression == 0 && nat_le g.mode 6
 
 -- a string can be read if each of its segments can
 abbrev pub all_readable : List Segment → Bool
-all_readable [] = true
-all_readable (g ∷ gs) = readable g && all_readable gs
+all_readable gs = list_all readable gs
 
 -- control code points are shown as a space
 abbrev pub control : ℕ → Bool
@@ -36,10 +36,14 @@ cut room (c ∷ cs) = cond (nat_le (length c) room) (c ++ cut (room - length c) 
 abbrev pub english : List ℕ → Bool
 english l = slice_index l 0 == 0x65 && slice_index l 1 == 0x6E && slice_index l 2 == 0x67
 
--- the segments of the first English string; none where there is no such string or it cannot be read
+-- the segments of a string, none where there is no string or it cannot be read
+abbrev pub read_of : Option Spoken → List Segment
+read_of None = []
+read_of (Some t) = cond (all_readable t.segments) t.segments []
+
+-- the segments of the first English string
 abbrev pub spoken : List Spoken → List Segment
-spoken [] = []
-spoken (t ∷ ts) = cond (english t.language) (cond (all_readable t.segments) t.segments []) (spoken ts)
+spoken ts = read_of (find (λ t. english t.language) ts)
 
 -- the text of a field
 unfoldable pub text_of : List ℕ → List ℕ

@@ -1,5 +1,6 @@
 -- What a text says, and what is answered for a field. Assumes nothing.
-use Rattle.std.specs.Prelude.{◌≡◌, ℕ, true, false, List, take, Ok, Err, Result}
+use Rattle.std.specs.Prelude.{◌≡◌, ℕ, true, false, List, Ok, Err, Result}
+use Rattle.octets.specs.Held.{held}
 use Rattle.text.specs.declared.line.Text.{Text}
 use Rattle.text.specs.declared.refusal.TextRefusal.{TextRefusal}
 use Rattle.text.specs.declared.refusal.TextRefusal.TheVariants.{Broken}
@@ -8,7 +9,7 @@ use Rattle.text.specs.Reading.{text_of}
 
 -- the bytes of a text
 abbrev pub said : Text → List ℕ
-said t = take t.len t.bytes
+said t = held t.bytes
 
 -- the text of a field that keeps the structure; any other field is broken
 abbrev pub English : List ℕ → Result Text TextRefusal → Type 0

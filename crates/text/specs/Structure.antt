@@ -18,14 +18,25 @@ segment_size s = 3 + slice_index s 2
 abbrev pub segment_at : List ℕ → Segment
 segment_at s = record { compression = slice_index s 0; mode = slice_index s 1; bytes = take (slice_index s 2) (drop 3 s) }
 
+-- so many parts from the front on, each read where the one before it ends
+abbrev pub run : {A : Type 0} → (List ℕ → A) → (List ℕ → List ℕ) → ℕ → List ℕ → List A
+run at after zero s = []
+run at after (suc n) s = at s ∷ run at after n (after s)
+
+-- what follows the segment at the front
+abbrev pub after_segment : List ℕ → List ℕ
+after_segment s = drop (segment_size s) s
+
 -- so many segments from the front on, and what follows them
 abbrev pub segments : ℕ → List ℕ → List Segment
-segments zero s = []
-segments (suc n) s = segment_at s ∷ segments n (drop (segment_size s) s)
+segments n s = run segment_at after_segment n s
+
+abbrev pub after_all : (List ℕ → List ℕ) → ℕ → List ℕ → List ℕ
+after_all after zero s = s
+after_all after (suc n) s = after_all after n (after s)
 
 abbrev pub after_segments : ℕ → List ℕ → List ℕ
-after_segments zero s = s
-after_segments (suc n) s = after_segments n (drop (segment_size s) s)
+after_segments n s = after_all after_segment n s
 
 -- the string that stands at the front, and what follows it
 abbrev pub string_at : List ℕ → Spoken
@@ -35,8 +46,7 @@ abbrev pub after_string : List ℕ → List ℕ
 after_string s = after_segments (slice_index s 3) (drop 4 s)
 
 abbrev pub strings : ℕ → List ℕ → List Spoken
-strings zero s = []
-strings (suc n) s = string_at s ∷ strings n (after_string s)
+strings n s = run string_at after_string n s
 
 -- the strings of a field; a field of no bytes has none
 abbrev pub strings_of : List ℕ → List Spoken
@@ -54,16 +64,18 @@ past n s = cond (nat_le n (length s)) (Some (drop n s)) None
 abbrev pub past_segment : List ℕ → Option (List ℕ)
 past_segment s = past (segment_size s) s
 
+abbrev pub past_all : (List ℕ → Option (List ℕ)) → ℕ → List ℕ → Option (List ℕ)
+past_all past_one zero s = Some s
+past_all past_one (suc n) s = and_then (past_one s) (past_all past_one n)
+
 abbrev pub past_segments : ℕ → List ℕ → Option (List ℕ)
-past_segments zero s = Some s
-past_segments (suc n) s = and_then (past_segment s) (past_segments n)
+past_segments n s = past_all past_segment n s
 
 abbrev pub past_string : List ℕ → Option (List ℕ)
 past_string s = and_then (past 4 s) (past_segments (slice_index s 3))
 
 abbrev pub past_strings : ℕ → List ℕ → Option (List ℕ)
-past_strings zero s = Some s
-past_strings (suc n) s = and_then (past_string s) (past_strings n)
+past_strings n s = past_all past_string n s
 
 -- the structure ends where its field ends
 abbrev pub ends : Option (List ℕ) → Bool

@@ -5,10 +5,12 @@ mod characters;
 mod line;
 mod reading;
 mod refusal;
-mod strings;
-mod walk;
+mod run;
+mod segment;
+mod spoken;
+mod structure;
 
 pub use line::{LONGEST, Text};
 pub use reading::{english, write_english};
 pub use refusal::TextRefusal;
-pub use walk::is_structured;
+pub use structure::is_structured;

@@ -1,19 +1,71 @@
 // What a text field says in English.
-ghost use Rattle.std.specs.Prelude.{◌≡◌};
-ghost use Rattle.text.specs.Reading.{text_of};
+ghost use Rattle.std.specs.Prelude.{◌≡◌, true, Some};
+ghost use Rattle.std.specs.List.{find};
+ghost use Rattle.std.specs.Option.{option_map};
+ghost use Rattle.text.specs.Structure.{segments as the_segments, strings as the_strings, strings_of};
+ghost use Rattle.text.specs.Reading.{all_readable, characters, cut, english, read_of, text_of};
 ghost use Rattle.text.specs.Said.{said, English};
+ghost use Rattle.text.specs.Seen.{seen_string};
 ghost use Rattle.text.specs.Writing.{WrittenEnglish};
 
+use crate::characters::put_segments;
 use crate::line::Text;
 use crate::refusal::TextRefusal;
-use crate::strings::{first_english, text_of_string};
-use crate::walk::{after, byte_at, is_structured};
+use crate::run::Run;
+use crate::segment::Segments;
+use crate::spoken::{Spoken, Strings};
+use crate::structure::is_structured;
+
+// Whether each segment can be read.
+fn all_readable(mut segments: Run<'_, Segments>) -> bool
+    ensures value { result ≡ all_readable (the_segments segments.entry.left segments.entry.rest.now) }
+{
+    segments.all(|segment| segment.is_readable())
+}
+
+// The text of segments that can be read.
+fn spell(segments: Run<'_, Segments>) -> Text
+    requires { all_readable (the_segments segments.left segments.rest.now) ≡ true }
+    ensures value { said result ≡ cut 1024 (characters (the_segments segments.entry.left segments.entry.rest.now)) }
+{
+    let mut text = Text::empty();
+    let _ = put_segments(&mut text, segments);
+    text
+}
+
+// What a string says: nothing where it cannot be read.
+fn text_of_string(string: Spoken<'_>) -> Text
+    ensures value { said result ≡ cut 1024 (characters (read_of (Some (seen_string string.entry)))) }
+{
+    if all_readable(string.segments) {
+        spell(string.segments)
+    } else {
+        Text::empty()
+    }
+}
+
+// The strings of a field. One of no bytes has none.
+fn strings_of(field: &[u8]) -> Run<'_, Strings>
+    ensures value { the_strings result.left result.rest.now ≡ strings_of field.now }
+{
+    match field.split_first() {
+        Some((count, strings)) => Run::new(*count, strings),
+        None => Run::new(0, field),
+    }
+}
+
+// The first English one of them.
+fn first_english(mut strings: Run<'_, Strings>) -> Option<Spoken<'_>>
+    ensures value { option_map seen_string result ≡ find (λ t. english t.language) (the_strings strings.entry.left strings.entry.rest.now) }
+{
+    strings.find(|string| string.is_english())
+}
 
 // The text of a field, as far as its bytes go.
 fn text_of(field: &[u8]) -> Text
     ensures value { said result ≡ text_of field.now }
 {
-    match first_english(byte_at(field, 0), after(field, 1)) {
+    match first_english(strings_of(field)) {
         Some(string) => text_of_string(string),
         None => Text::empty(),
     }
@@ -34,10 +86,7 @@ pub fn english(field: &[u8]) -> Result<Text, TextRefusal>
 pub fn write_english(field: &[u8], out: &mut [u8]) -> Result<usize, TextRefusal>
     ensures cases { WrittenEnglish field.now out.old result out.new }
 {
-    match english(field) {
-        Ok(text) => text.write(out),
-        Err(refusal) => Err(refusal),
-    }
+    english(field)?.write(out)
 }
 
 #[cfg(test)]

@@ -34,6 +34,7 @@ impl TextRefusal {
     }
 }
 
+// By hand: what a derive writes has no contract, and this text is proved.
 impl fmt::Display for TextRefusal {
     ghost output = { λ e. Some (words e) };
 

@@ -42,7 +42,8 @@ pub fn fill(
             gathered,
         });
     }
-    match put_document(&work[0..size], words, out) {
+    // No `ok_or`: only a refusal gives the gathered document back.
+    match put_document(&work[..size], words, out) {
         Some(written) => Ok(Filled { size: written }),
         None => Err(Unfilled {
             refusal: FillRefusal::Short,

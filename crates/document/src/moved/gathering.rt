@@ -6,6 +6,7 @@ ghost use Rattle.document.specs.Gathers.{section_document, Gathers};
 ghost use Rattle.document.specs.Rearranging.{Rearranged};
 
 use super::Gathered;
+use crate::binding::{total, write};
 use crate::refusal::DocumentRefusal;
 use crate::walk::walk;
 use section::Section;
@@ -24,17 +25,13 @@ fn gather_part(area: &[u8], work: &mut [u8]) -> Result<Gathered, DocumentRefusal
     requires { length area.now ≤ 1023 }
     ensures cases { Gathers (document_of area.now) work.old result work.new }
 {
-    let Some(gathering) = walk(area) else {
-        return Err(DocumentRefusal::Unended);
-    };
-    if let Some(e) = gathering.fault() {
-        return Err(e);
-    }
-    let size = gathering.total();
+    let gathering = walk(area).ok_or(DocumentRefusal::Unended)?;
+    let fragments = gathering.bound()?;
+    let size = total(fragments);
     if work.len() < size {
         return Err(DocumentRefusal::Short);
     }
-    gathering.write(area, work);
+    write(fragments, work);
     Ok(Gathered { size })
 }
 
@@ -44,8 +41,6 @@ pub fn gather(section: &Section<'_>, work: &mut [u8]) -> Result<Gathered, Docume
     ensures document_of_the_section { GathersOf section.now.bytes.now (length work.old) result work.new }
     ensures order_of_descriptors_does_not_matter { (t : List ℕ) → Rearranged section.now.bytes.now t → Gathers (section_document t) work.old result work.new }
 {
-    match section.descriptors() {
-        Ok(part) => gather_part(part.bytes, work),
-        Err(e) => Err(DocumentRefusal::Section(e)),
-    }
+    let part = section.descriptors()?;
+    gather_part(part.bytes, work)
 }

@@ -12,9 +12,5 @@ pub fn hand_out<'a>(filled: &Filled, out: &'a [u8]) -> Result<&'a [u8], HandOutR
     ensures cases { HandsOut filled.now out.now result }
     ensures document_of_the_section { (s words : List ℕ) → HoldsFilled s words filled.now out.now → HandsOutOf s words result }
 {
-    let size = filled.size;
-    if out.len() < size {
-        return Err(HandOutRefusal::Short);
-    }
-    Ok(&out[0..size])
+    out.get(..filled.size).ok_or(HandOutRefusal::Short)
 }

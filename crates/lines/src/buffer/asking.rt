@@ -1,6 +1,6 @@
 // The parts that a buffer holds of its line.
-ghost use Rattle.std.specs.Prelude.{◌≡◌, ℕ, ◌-◌, ◌^◌, min, List, length, take, drop};
-ghost use Rattle.lines.specs.Held.{Holds};
+ghost use Rattle.std.specs.Prelude.{◌≡◌, ◌-◌, ◌^◌, min, length, take, drop};
+ghost use Rattle.lines.specs.Held.{OfLine};
 ghost use Rattle.lines.specs.Tails.{tail_of};
 
 use crate::buffer::LineBuffer;
@@ -10,7 +10,7 @@ impl LineBuffer {
     // The kept bytes, the first of the line.
     pub fn bytes(&self) -> &[u8]
         ensures value { result.now ≡ self.now.kept.items }
-        ensures held { (line : List ℕ) → Holds self.now line → result.now ≡ take self.now.most line }
+        ensures held { OfLine self.now (λ line. result.now ≡ take self.now.most line) }
     {
         self.kept.as_slice()
     }
@@ -18,7 +18,7 @@ impl LineBuffer {
     // How many bytes came past the kept ones.
     pub fn past(&self) -> u64
         ensures value { result ≡ self.now.past }
-        ensures held { (line : List ℕ) → Holds self.now line → result ≡ min (2 ^ 64 - 1) (length line - self.now.most) }
+        ensures held { OfLine self.now (λ line. result ≡ min (2 ^ 64 - 1) (length line - self.now.most)) }
     {
         self.past
     }
@@ -26,7 +26,7 @@ impl LineBuffer {
     // What they are.
     pub fn tail(&self) -> Tail
         ensures value { result ≡ self.now.tail }
-        ensures held { (line : List ℕ) → Holds self.now line → result ≡ tail_of (drop self.now.most line) }
+        ensures held { OfLine self.now (λ line. result ≡ tail_of (drop self.now.most line)) }
     {
         self.tail
     }

@@ -1,9 +1,9 @@
 // Fills a buffer with a line, piece by piece.
-ghost use Rattle.std.specs.Prelude.{◌≡◌, ℕ, List, [], ◌++◌, MatchResult};
-ghost use Rattle.lines.specs.Held.{Holds, Takes};
+ghost use Rattle.std.specs.Prelude.{◌≡◌, [], ◌++◌, MatchResult};
+ghost use Rattle.lines.specs.Held.{Holds, OfLine, Takes};
 
 use crate::buffer::{LineBuffer, Taken};
-use crate::ends::feed_at;
+use crate::marks::mark_at;
 use crate::tail::Tail;
 use std::alloc::{AllocError, Global};
 
@@ -32,19 +32,16 @@ impl LineBuffer {
 
     // Goes on with the line by a piece of it.
     fn keep(&mut self, piece: &[u8]) -> Result<(), AllocError>
-        ensures cases { MatchResult result (λ _. (line : List ℕ) → Holds self.old line → Holds self.new (line ++ piece.now)) (λ _. (line : List ℕ) → Holds self.old line → Holds self.new line) }
+        ensures cases { MatchResult result (λ _. OfLine self.old (λ line. Holds self.new (line ++ piece.now))) (λ _. OfLine self.old (λ line. Holds self.new line)) }
         ensures same { self.new.most ≡ self.old.most }
     {
         let fits = piece.len().min(self.most - self.kept.len());
         let (first, over) = piece.split_at(fits);
-        match self.kept.extend_from_slice(first) {
-            Ok(()) => {
-                self.past = self.past.saturating_add(over.len() as u64);
-                self.tail = self.tail.after_all(over);
-                Ok(())
-            }
-            Err(e) => Err(e),
-        }
+        self.kept.extend_from_slice(first)?;
+        // as in Rust there is no `From<usize>` for `u64`
+        self.past = self.past.saturating_add(over.len() as u64);
+        self.tail = self.tail.after_all(over);
+        Ok(())
     }
 
     // Takes from what a reader holds up to and with the first line feed, or all of it.
@@ -52,12 +49,10 @@ impl LineBuffer {
         ensures cases { Takes self.old self.new held.now result }
         ensures same { self.new.most ≡ self.old.most }
     {
-        let end = feed_at(held);
+        let end = mark_at(held, b'\n');
         let ended = end < held.len();
         let count = if ended { end + 1 } else { end };
-        match self.keep(&held[0..end]) {
-            Ok(()) => Ok(Taken { count, ended }),
-            Err(e) => Err(e),
-        }
+        self.keep(&held[0..end])?;
+        Ok(Taken { count, ended })
     }
 }

@@ -21,10 +21,7 @@ impl<S: Set> Receiver<S> {
     pub fn event_in_force(&self) -> Option<EventId>
         ensures of_the_alert_in_force { (s : Start) (h : List Event) → Stood S.meaning s h self.now → EventInForce s h result }
     {
-        match &self.state.alert {
-            Some(alert) => Some(alert.event_id),
-            None => None,
-        }
+        self.state.alert.as_ref().map(|alert| alert.event_id)
     }
 
     // The set, to be asked and not to be changed.

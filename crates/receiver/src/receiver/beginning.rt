@@ -2,7 +2,7 @@
 ghost use Rattle.std.specs.Prelude.{◌≡◌, []};
 ghost use Rattle.decision.specs.Pictures.{plain};
 ghost use Rattle.history.specs.Law.{Law};
-ghost use Rattle.receiver.specs.Stood.{Stood};
+ghost use Rattle.receiver.specs.Stood.{began, Stood};
 
 use super::Receiver;
 use history::State;
@@ -19,10 +19,10 @@ fn quiet<S: Set>(set: &mut S)
 
 impl<S: Set> Receiver<S> {
     // Takes the set as it is found, gives it its own sound and an empty caption, and makes the service
-    // shown the viewer's.
+    // shown the viewer's. Place, path and clock are not one struct: each caller would have to make it.
     pub fn begin(set: S, place: Place, path: Path, clock: u32) -> Receiver<S>
-        ensures stands { Stood S.meaning (record { place = place; path = path; clock = clock; found = S.meaning set }) [] result }
-        ensures the_set_shows_what_the_calls_ask { Law (record { place = place; path = path; clock = clock; found = S.meaning set }) [] (S.meaning result.set) }
+        ensures stands { Stood S.meaning (began place path clock (S.meaning set)) [] result }
+        ensures the_set_shows_what_the_calls_ask { Law (began place path clock (S.meaning set)) [] (S.meaning result.set) }
     {
         let mut set = set;
         quiet(&mut set);

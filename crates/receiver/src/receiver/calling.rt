@@ -24,18 +24,14 @@ impl<S: Set> Receiver<S> {
         ensures a_set_that_shows_it_is_spared { Spares S.meaning (sent bytes.now) self.old self.new }
     {
         let section = Section::read(bytes);
-        let judged = match judge(&self.state, &section) {
-            Ok(judged) => judged,
-            Err(e) => return Err(e),
-        };
+        let judged = judge(&self.state, &section)?;
         let State { path, clock, .. } = self.state;
         let noted = after_answer(&self.state, judged.answer, judged.sequence);
-        match judged.answer {
-            Answer::InForce(_) => match keep_alert(&section, &self.set, path, clock) {
-                Ok(alert) => self.turn_to(with_alert(&noted, alert)),
-                Err(e) => return Err(e),
-            },
-            _ => self.state = noted,
+        if let Answer::InForce(_) = judged.answer {
+            let alert = keep_alert(&section, &self.set, path, clock)?;
+            self.turn_to(with_alert(&noted, alert));
+        } else {
+            self.state = noted;
         }
         Ok(judged.answer)
     }
@@ -48,13 +44,9 @@ impl<S: Set> Receiver<S> {
         ensures a_refusal_changes_nothing { OnErr result (self.new ≡ self.old) }
         ensures a_set_that_shows_it_is_spared { Spares S.meaning (told seconds) self.old self.new }
     {
-        match after_reading(&self.state, seconds) {
-            Ok(next) => {
-                self.turn_to(next);
-                Ok(())
-            }
-            Err(e) => Err(e),
-        }
+        let next = after_reading(&self.state, seconds)?;
+        self.turn_to(next);
+        Ok(())
     }
 
     // The viewer chooses a service.
@@ -65,12 +57,8 @@ impl<S: Set> Receiver<S> {
         ensures a_refusal_changes_nothing { OnErr result (self.new ≡ self.old) }
         ensures a_set_that_shows_it_is_spared { Spares S.meaning (chose number) self.old self.new }
     {
-        match after_choice(&self.state, self.set.count(), number) {
-            Ok(next) => {
-                self.turn_to(next);
-                Ok(())
-            }
-            Err(e) => Err(e),
-        }
+        let next = after_choice(&self.state, self.set.count(), number)?;
+        self.turn_to(next);
+        Ok(())
     }
 }

@@ -1,5 +1,4 @@
 // What a section's entries name.
-ghost use Rattle.std.specs.Prelude.{◌≡◌};
 ghost use Rattle.section.specs.Naming.{NamesPlace, ExceptsService};
 
 use super::super::refusal::SectionRefusal;
@@ -12,19 +11,13 @@ impl<'a> Section<'a> {
     pub fn naming_location(&self, place: &Place) -> Result<Option<usize>, SectionRefusal>
         ensures { NamesPlace self.now.bytes.now place.now result }
     {
-        match self.locations() {
-            Ok(part) => Ok(naming_location(part.bytes, place)),
-            Err(e) => Err(e),
-        }
+        Ok(naming_location(self.locations()?.bytes, place))
     }
 
     // Whether an exception entry names the service on its path.
     pub fn excepts(&self, tuned: &Tuned) -> Result<bool, SectionRefusal>
         ensures { ExceptsService self.now.bytes.now tuned.now result }
     {
-        match self.exceptions() {
-            Ok(part) => Ok(excepts(part.bytes, tuned)),
-            Err(e) => Err(e),
-        }
+        Ok(excepts(self.exceptions()?.bytes, tuned))
     }
 }

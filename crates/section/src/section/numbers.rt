@@ -3,9 +3,7 @@ ghost use Rattle.std.specs.Prelude.{◌≡◌};
 ghost use Rattle.section.specs.Rules.{refusal, or_refused};
 ghost use Rattle.section.specs.Values.{fields_of};
 
-use super::super::decode::decode;
 use super::super::fields::Fields;
-use super::super::head::split_head;
 use super::super::refusal::SectionRefusal;
 use super::Section;
 
@@ -14,13 +12,8 @@ impl<'a> Section<'a> {
     pub fn fields(&self) -> Result<Fields, SectionRefusal>
         ensures { result ≡ or_refused (refusal self.now.bytes.now) (fields_of self.now.bytes.now) }
     {
-        let Some(head) = split_head(self.bytes) else {
-            return Err(SectionRefusal::Length);
-        };
-        match self.layout() {
-            Ok(layout) => Ok(decode(self.bytes, &head, layout.times)),
-            Err(e) => Err(e),
-        }
+        let laid = self.laid()?;
+        Ok(laid.decode())
     }
 }
 

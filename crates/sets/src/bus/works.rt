@@ -12,7 +12,7 @@ use station::{ChannelPair, Service, SourceId};
 
 const INPUTS: usize = 16;
 
-// One input: the pair follows its number, and it has neither an ID nor marks.
+// One input: the pair follows its number (by `as`: there is no `From<usize>` for `u16`), and it has neither an ID nor marks.
 fn input_of(number: usize) -> Service
     requires { number < 16 }
     ensures value { result ≡ input number }
@@ -82,7 +82,8 @@ impl Set for StudioBus {
     fn own(&mut self) {}
 
     fn caption(&mut self, bytes: &[u8]) -> Result<(), SetRefusal> {
-        self.caption.write(bytes)
+        self.caption.replace(bytes)?;
+        Ok(())
     }
 }
 
@@ -92,6 +93,6 @@ impl Shows for StudioBus {
     }
 
     fn caption_bytes(&self) -> &[u8] {
-        self.caption.text()
+        self.caption.as_bytes()
     }
 }

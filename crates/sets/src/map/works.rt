@@ -2,14 +2,12 @@
 ghost use Rattle.std.specs.Prelude.{◌≡◌, ◌<◌, ◌≤◌, length};
 ghost use Rattle.sets.specs.Laws.{map_lawful};
 ghost use Rattle.sets.specs.Maps.{map_meaning, freshly, new_map};
-ghost use Rattle.sets.specs.Tables.{table_refusal, Checks};
 
 use crate::caption::Caption;
 use crate::map::ChannelMap;
-use crate::refusal::{SetRefusal, TableRefusal};
+use crate::refusal::SetRefusal;
 use crate::set::{Set, Shows};
 use crate::sound::Sound;
-use crate::table::check as check_table;
 use station::{ChannelPair, Service, SourceId};
 
 // What a map lists that was made on a table that is refused.
@@ -22,13 +20,6 @@ static BARE: [Service; 1] = [Service {
 }];
 
 impl<'a> ChannelMap<'a> {
-    // Whether a map over the table can start there, and if not the first rule that is broken.
-    pub fn check(table: &[Service], start: usize) -> Result<(), TableRefusal>
-        ensures cases { Checks (table_refusal table.now start) result }
-    {
-        check_table(table, start)
-    }
-
     // A map over a table that it fits, with its own sound and no caption.
     fn over(table: &'a [Service], start: usize) -> ChannelMap<'a>
         requires { (length table.now ≤ 256) × (start < length table.now) }
@@ -63,10 +54,7 @@ impl<'a> Set for ChannelMap<'a> {
     }
 
     fn service(&self, number: usize) -> Option<Service> {
-        if number >= self.table.len() {
-            return None;
-        }
-        Some(self.table[number])
+        self.table.get(number).copied()
     }
 
     fn shown(&self) -> usize {
@@ -83,16 +71,12 @@ impl<'a> Set for ChannelMap<'a> {
     }
 
     fn borrow(&mut self, number: usize) -> Result<(), SetRefusal> {
-        match self.service(number) {
-            None => Err(SetRefusal::PastTheList),
-            Some(service) => {
-                if !service.apart {
-                    return Err(SetRefusal::NotApart);
-                }
-                self.sound = Sound::Borrowed(number);
-                Ok(())
-            }
+        let service = self.service(number).ok_or(SetRefusal::PastTheList)?;
+        if !service.apart {
+            return Err(SetRefusal::NotApart);
         }
+        self.sound = Sound::Borrowed(number);
+        Ok(())
     }
 
     fn own(&mut self) {
@@ -100,7 +84,8 @@ impl<'a> Set for ChannelMap<'a> {
     }
 
     fn caption(&mut self, bytes: &[u8]) -> Result<(), SetRefusal> {
-        self.caption.write(bytes)
+        self.caption.replace(bytes)?;
+        Ok(())
     }
 }
 
@@ -110,6 +95,6 @@ impl<'a> Shows for ChannelMap<'a> {
     }
 
     fn caption_bytes(&self) -> &[u8] {
-        self.caption.text()
+        self.caption.as_bytes()
     }
 }

@@ -1,21 +1,15 @@
-use Rattle.std.proofs.Common.{ℕ, ◌/◌, ◌^◌, ◌<◌, arith}
-use lib.Bits.{bit_xor, xor_lt}
+use Rattle.std.proofs.Common.{◌≡◌, ◌*◌, ◌/◌, ◌%◌, ◌^◌, get_or, ap, ◌∙◌, arith}
+use lib.Bits.{bit_xor}
 use Rattle.checkword.specs.Register.{moves, moved}
-use Rattle.checkword.proofs.Steps.{entry, by_table}
+use Rattle.checkword.proofs.Steps.{entry, table, by_table}
 use Rattle.checkword.proofs.register.enter.Goals as goal
-
-below : (r b : ℕ) → r < 2 ^ 32 → b < 2 ^ 8 → bit_xor (r / 2 ^ 24) b < 256
-below r b g h = xor_lt 8 (r / 2 ^ 24) b (omega arith) h
-
-pub overflow_cast-result : goal.overflow_cast-result
-overflow_cast-result c = record { fits = omega (arith, below c.args.register c.args.byte (omega arith) (omega arith)) }
-
-pub offset_bounds-top : goal.offset_bounds-top
-offset_bounds-top c = record { fits = omega (arith, below c.args.register c.args.byte (omega arith) (omega arith)) }
-
-pub bounds-top : goal.bounds-top
-bounds-top c = below c.args.register c.args.byte (omega arith) (omega arith)
 
 pub returns : goal.returns
 unfolding entry moves moved
-returns c = by_table c.args.register c.args.byte (omega arith) (omega arith)
+returns c =
+    let r = c.args.register in
+    let b = c.args.byte in
+    let first : get_or c.to_be_bytes.result 0 0 ≡ r / 2 ^ 24 % 256 = ap (λ l. get_or l 0 0) c.to_be_bytes.ensures in
+    let top : get_or c.to_be_bytes.result 0 0 ≡ r / 2 ^ 24 = omega (arith, first) in
+    let index : c.from.result ≡ bit_xor (r / 2 ^ 24) b = c.from.ensures ∙ ap (λ t. bit_xor t b) top in
+    (λ i. bit_xor (r * 256 % 2 ^ 32) (get_or table (index i) 0)) ∙ by_table r b (omega arith) (omega arith)

@@ -1,8 +1,8 @@
-use Rattle.std.proofs.Common.{arith}
+use Rattle.std.proofs.Common.{◌∙◌, arith}
 use Rattle.checkword.specs.Register.{moves, moved}
 use Rattle.checkword.proofs.Split.{gone, eight_reads}
 use Rattle.checkword.proofs.register.through_eight.Goals as goal
 
 pub returns : goal.returns
 unfolding gone moves moved
-returns c = eight_reads c.args.x (omega arith)
+returns c = c.through.ensures ∙ eight_reads c.args.x (omega arith)

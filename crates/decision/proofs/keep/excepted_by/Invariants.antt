@@ -5,5 +5,5 @@ use Rattle.decision.proofs.keep.excepted_by.Given as goal
 
 abbrev pub invariant-loop-k : goal.invariant-loop-k
 invariant-loop-k g l =
-    (length l.marks ≡ 256)
-    × ((j : ℕ) → j < l.k → Marked l.section.bytes.now l.path (service_at (g.S.Set.meaning l.set).services j) (get_or l.marks j false))
+    (length l.mark-items ≡ 256)
+    × ((j : ℕ) → j < l.k → Marked l.section.bytes.now l.path (service_at (g.S.Set.meaning l.set).services j) (get_or l.mark-items j false))

@@ -1,13 +1,10 @@
-use Rattle.std.proofs.Common.{ap, ◌∙◌, arith}
-use Rattle.std.proofs.lemmas.List.{take_all}
-use Rattle.lines.specs.Hex.{all_digits}
-use Rattle.lines.proofs.Digits.{seen_more}
+use Rattle.std.proofs.Common.{◌≡◌, cond, ltb, fold, bit_or, ap, ◌∙◌, rules}
+use Rattle.std.proofs.iter.runs.Made.{chains}
+use Rattle.lines.specs.Hex.{is_digit, worth}
+use Rattle.lines.proofs.Digits.{seen_digits}
 use Rattle.lines.proofs.hex.all_digits.Goals as goal
-
-pub loop-byte-preserved : goal.loop-byte-preserved
-loop-byte-preserved c =
-    seen_more c.args.text.now c.loop-byte.byte-index c.loop-byte.seen c.looked_up-seen.result (omega arith) c.loop-byte.invariant c.looked_up-seen.ensures.value
 
 pub returns : goal.returns
 returns c =
-    record { value = c.loop-byte.invariant ∙ ap all_digits (take_all c.loop-byte.byte-index c.args.text.now (omega arith)) }
+    let seen : c.fold.result ≡ fold (λ s b. bit_or s (cond (is_digit b) (worth b) 255)) 0 c.args.text.now = search (rules, chains) in
+    record { value = ap (λ n. ltb n 16) seen ∙ seen_digits c.args.text.now 0 }

@@ -6,13 +6,6 @@ use Rattle.script.specs.Words.{words_ask}
 use Rattle.script.proofs.Lining.{asked_by, words_leave, either_way}
 use Rattle.script.proofs.reading.read_line.Goals as goal
 
-pub returns-then-is_comment : goal.returns-then-is_comment
-returns-then-is_comment c =
-    record {
-      value = λ text holds small k. asked_by c.args.line.now.most text _ _ _ _ _ refl (c.if-is_comment.ensures.value text holds (omega arith)) refl refl refl;
-      after = λ text holds. sym (either_way (leb (length text) c.args.line.now.most) c.args.room.now c.args.room.now refl);
-    }
-
 pub returns-in-Some : goal.returns-in-Some
 returns-in-Some c =
     record {
@@ -52,15 +45,8 @@ returns-in-Some-whole_text c =
           (ap (room_for room (unreturned text)) c.read_words.ensures.value ∙ words_leave room (unreturned text) c.in-Some-whole_text.text.now));
     }
 
-pub returns-in-None : goal.returns-in-None
-returns-in-None c =
-    let most = c.args.line.now.most in
-    let room = c.args.room.now in
-    record {
-      value = λ text holds small k.
-          asked_by most text _ _ _ _ _ refl (c.if-is_comment.ensures.value text holds (omega arith))
-          (c.in_default.ensures.value text holds small (omega arith)) (c.in_default-hex_value.ensures.value text holds small (omega arith)) (sym (c.in-None.ensures.cases text holds));
-      after = λ text holds.
-          c.in_default-hex_value.ensures.after text holds ∙ either_way (leb (length text) most) c.hex_value.new.room c.hex_value.new.room refl
-          ∙ c.in_default.ensures.after text holds;
-    }
+pub returns-in-None-clause-value : goal.returns-in-None-clause-value
+returns-in-None-clause-value c =
+    λ text holds small k.
+    asked_by c.args.line.now.most text _ _ _ _ _ refl (c.if-is_comment.ensures.value text holds (omega arith))
+    (c.in_default.ensures.value text holds small (omega arith)) (c.in_default-hex_value.ensures.value text holds small (omega arith)) (sym (c.in-None.ensures.cases text holds))

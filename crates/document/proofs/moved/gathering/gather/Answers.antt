@@ -5,10 +5,10 @@ use Rattle.document.proofs.Holdings.{gathers_of, gathers_too}
 use Rattle.document.proofs.moved.gathering.gather.Goals as goal
 
 pub gather_part-requires : goal.gather_part-requires
-gather_part-requires c = omega (arith, few c.args.section.now.bytes.now, ap length c.in-Ok.ensures.2)
+gather_part-requires c = omega (arith, few c.args.section.now.bytes.now, ap length c.in_ok-part.ensures.2)
 
-pub returns-in-Ok : goal.returns-in-Ok
-returns-in-Ok c =
+pub returns : goal.returns
+returns c =
     let s = c.args.section.now.bytes.now in
     let before = c.args.work.now in
     let r = c.gather_part.result in

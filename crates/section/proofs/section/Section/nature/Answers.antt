@@ -1,7 +1,7 @@
 use Rattle.section.specs.Places.{nature_of}
-use Rattle.section.proofs.Outcomes.{hands}
+use Rattle.section.proofs.Parts.{hands}
 use Rattle.section.proofs.section.Section.nature.Goals as goal
 
-pub returns-in-Ok : goal.returns-in-Ok
+pub returns : goal.returns
 unfolding nature_of
-returns-in-Ok c = hands c.args.self.now.bytes.now c.in-Ok.layout (λ l. l.nature) _ _ c.in-Ok.ensures c.part_at.ensures.at c.part_at.ensures.value
+returns c = let laid = c.in_ok-laid.laid in hands c.args.self.now.bytes.now laid.bytes.now (λ l. l.nature) c.in_ok-laid.ensures laid.places c.part_at.ensures.at c.part_at.ensures.value

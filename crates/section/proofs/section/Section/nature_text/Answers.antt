@@ -5,8 +5,8 @@ use Rattle.section.specs.Places.{nature_of}
 use Rattle.section.proofs.Outcomes.{texts_of}
 use Rattle.section.proofs.section.Section.nature_text.Goals as goal
 
-pub returns-in-Err-english : goal.returns-in-Err-english
-returns-in-Err-english c =
+pub returns-in_err-text : goal.returns-in_err-text
+returns-in_err-text c =
     let s = c.args.self.now.bytes.now in
-    let part = c.in-Ok.ensures in
-    absurd (both_ways (structured (nature_of s)) (sym (ap structured part.2) ∙ c.in-Err-english.ensures.cases.0) (texts_of s part.0).0)
+    let part = c.in_ok-part.ensures in
+    absurd (both_ways (structured (nature_of s)) (sym (ap structured part.2) ∙ c.in_err-text.ensures.cases.0) (texts_of s part.0).0)

@@ -1,0 +1,119 @@
+-- The fragments of a table in rising number, and what they lack. Assumes nothing.
+use Rattle.std.proofs.Common.{◌≡◌, ℕ, zero, suc, ◌+◌, ◌*◌, ◌<◌, ◌≤◌, Bool, true, false, cond, not, ◌&&◌, ◌||◌, eqb, List, [], ◌∷◌, ◌++◌, length, get_or, take, drop, Some, None, Option, sym, refl, ap, ◌∙◌, add-one, arith, length-append, length-drop}
+use Rattle.std.specs.Borrow.{Bor}
+use Rattle.std.specs.Option.{is_some}
+use Rattle.std.specs.List.{list_all}
+use Rattle.std.proofs.lemmas.List.{get_or-drop, get_or_past}
+use Rattle.std.proofs.lemmas.List.Folds.{list_all_more}
+use Rattle.std.proofs.lemmas.Bool.{ne_eqb}
+use Rattle.std.proofs.lemmas.Bool.Decides.{nat_tests}
+use Rattle.document.specs.Descriptors.{Descriptor}
+use Rattle.document.specs.Fragments.{Fragment, any_breaks, fragments_of, tally, repeats, lookup, missing, chained}
+use Rattle.document.specs.Document.{fault, fault_of, gap, bound}
+use Rattle.document.specs.Tables.{Placed, Tabled, placed_bytes, pieces}
+use Rattle.document.specs.declared.slots.Gathering.{Gathering}
+use Rattle.document.specs.declared.refusal.DocumentRefusal.TheVariants.{Gap}
+use Rattle.document.proofs.Bindings.{missing_at}
+use Rattle.document.proofs.Escapes.{flat_map_on}
+
+lookup_none : (k : ℕ) (fs : List Fragment) → tally k fs ≡ 0 → lookup k fs ≡ []
+lookup_none k [] h = refl
+lookup_none k (f ∷ fs) h = let i = lookup_none k fs in grind (arith, nat_tests)
+
+placed_piece : (fs : List Fragment) (k : ℕ) (o : Option (Bor (List ℕ))) → Placed fs k o → placed_bytes o ≡ lookup k fs
+placed_piece fs k None h = sym (lookup_none k fs h)
+placed_piece fs k (Some b) h = h.1
+
+placed_short : (fs : List Fragment) (k : ℕ) (o : Option (Bor (List ℕ))) → Placed fs k o → length (placed_bytes o) ≤ 255
+placed_short fs k None h = omega arith
+placed_short fs k (Some b) h = omega (arith, h.2)
+
+placed_some : (fs : List Fragment) (k : ℕ) (o : Option (Bor (List ℕ))) → Placed fs k o → is_some o ≡ not (eqb (tally k fs) 0)
+placed_some fs k None h = grind (arith, nat_tests)
+placed_some fs k (Some b) h = ap not (sym (ne_eqb (tally k fs) 0 h.0))
+
+placed_gone : (fs : List Fragment) (k : ℕ) (o : Option (Bor (List ℕ))) → Placed fs k o → o ≡ None → tally k fs ≡ 0
+placed_gone fs k None h e = h
+placed_gone fs k (Some b) h e = cc
+
+both : (a b : Bool) → (not b && not a) ≡ not (a || b)
+both true true = refl
+both true false = refl
+both false true = refl
+both false false = refl
+
+-- with nothing wrong before it, only a gap is left to refuse
+fault_left : (b : Bool) (n : ℕ) (r g : Bool) → b ≡ false → (n ≡ 0 → ⊥) → r ≡ false → fault b n r g ≡ cond g (Some Gap) None
+fault_left b n r g p z q = rw (p, ne_eqb n 0 z, q)
+
+module _ (ds : List Descriptor) (g : Gathering) (h : Tabled ds g) where
+  abbrev fs : List Fragment
+  fs = fragments_of ds
+
+  abbrev rest : List (Option (Bor (List ℕ)))
+  rest = drop 1 g.fragments
+
+  at_rest : (n : ℕ) → get_or rest n None ≡ get_or g.fragments (n + 1) None
+  at_rest n = let e : 1 + n ≡ n + 1 = omega arith in get_or-drop 1 g.fragments n None ∙ ap (λ k. get_or g.fragments k None) e
+
+  inside : (n : ℕ) → n + 1 < 256 → n < length rest
+  inside n lt = omega (arith, length-drop 1 g.fragments, h.table)
+
+  pieces_are : (n : ℕ) → n < 256 → pieces (take n rest) ≡ chained (λ k. lookup k fs) n
+  pieces_are zero lt = refl
+  pieces_are (suc n) lt =
+      let one = add-one n in
+      ap (λ m. pieces (take m rest)) (sym one) ∙ (flat_map_on placed_bytes rest n None (inside n (omega arith))
+      ∙ (ap (λ r. r ++ placed_bytes (get_or rest n None)) (pieces_are n (omega arith))
+      ∙ ap (λ r. chained (λ k. lookup k fs) n ++ r) (ap placed_bytes (at_rest n) ∙ (placed_piece fs (n + 1) (get_or g.fragments (n + 1) None) (h.places (n + 1)) ∙ ap (λ m. lookup m fs) one))))
+
+  pieces_short : (n : ℕ) → n < 256 → length (pieces (take n rest)) ≤ 255 * n
+  pieces_short zero lt = omega arith
+  pieces_short (suc n) lt =
+      let one = add-one n in
+      let more = ap length (ap (λ m. pieces (take m rest)) (sym one) ∙ flat_map_on placed_bytes rest n None (inside n (omega arith))) ∙ length-append (pieces (take n rest)) (placed_bytes (get_or rest n None)) in
+      let short = placed_short fs (n + 1) (get_or g.fragments (n + 1) None) (h.places (n + 1)) in
+      let here = ap (λ o. length (placed_bytes o)) (at_rest n) in
+      let before = pieces_short n (omega arith) in
+      omega arith
+
+  all_there : (n : ℕ) → n < 256 → list_all is_some (take n rest) ≡ not (missing (λ k. tally k fs) n)
+  all_there zero lt = refl
+  all_there (suc n) lt =
+      let one = add-one n in
+      let some : is_some (get_or rest n None) ≡ not (eqb (tally (suc n) fs) 0) = ap is_some (at_rest n) ∙ (placed_some fs (n + 1) (get_or g.fragments (n + 1) None) (h.places (n + 1)) ∙ ap (λ m. not (eqb (tally m fs) 0)) one) in
+      ap (λ m. list_all is_some (take m rest)) (sym one) ∙ (list_all_more is_some rest n None (inside n (omega arith))
+      ∙ (ap (λ b. b && is_some (get_or rest n None)) (all_there n (omega arith))
+      ∙ (ap (λ b. not (missing (λ k. tally k fs) n) && b) some ∙ both (eqb (tally (suc n) fs) 0) (missing (λ k. tally k fs) n))))
+
+  module _ (broken : g.broken ≡ false) (some : g.count ≡ 0 → ⊥) (twice : g.twice ≡ false) where
+    left : fault_of ds ≡ cond (missing (λ k. tally k fs) g.count) (Some Gap) None
+    left = fault_left (any_breaks ds) (length fs) (repeats fs) (gap fs) (sym h.broken ∙ broken) (λ z. some (h.count ∙ z)) (sym h.twice ∙ twice)
+        ∙ ap (λ n. cond (missing (λ k. tally k fs) n) (Some Gap) None) (sym h.count)
+
+    -- none of the numbers is missing
+    pub all_bound : (ps : List (Option (Bor (List ℕ)))) → ps ≡ take g.count rest → g.count < 256 → list_all is_some ps ≡ true
+        → (fault_of ds ≡ None) × (pieces ps ≡ bound fs) × (length (pieces ps) ≤ 65535)
+    all_bound ps e lt all =
+        let b : not (missing (λ k. tally k fs) g.count) ≡ true = sym (all_there g.count lt) ∙ (sym (ap (list_all is_some) e) ∙ all) in
+        let m : missing (λ k. tally k fs) g.count ≡ false = grind (arith, b) in
+        let short = pieces_short g.count lt in
+        let l = ap (λ x. length (pieces x)) e in (
+          left ∙ ap (λ b. cond b (Some Gap) None) m,
+          ap pieces e ∙ (pieces_are g.count lt ∙ ap (chained (λ k. lookup k fs)) h.count),
+          omega arith,
+        )
+
+    -- a number of the table is missing
+    pub one_missing : (ps : List (Option (Bor (List ℕ)))) → ps ≡ take g.count rest → g.count < 256 → list_all is_some ps ≡ false → fault_of ds ≡ Some Gap
+    one_missing ps e lt all =
+        let b : not (missing (λ k. tally k fs) g.count) ≡ false = sym (all_there g.count lt) ∙ (sym (ap (list_all is_some) e) ∙ all) in
+        let m : missing (λ k. tally k fs) g.count ≡ true = grind (arith, b) in
+        left ∙ ap (λ b. cond b (Some Gap) None) m
+
+    -- more fragments than the table has numbers for: 256 is missing
+    pub past_table : 256 ≤ g.count → fault_of ds ≡ Some Gap
+    past_table ge =
+        let none : get_or g.fragments 256 None ≡ None = get_or_past g.fragments 256 None (omega (arith, h.table)) in
+        let zero-tally : tally 256 fs ≡ 0 = placed_gone fs 256 (get_or g.fragments 256 None) (h.places 256) none in
+        left ∙ ap (λ b. cond b (Some Gap) None) (missing_at (λ k. tally k fs) 255 g.count (omega arith) zero-tally)
