@@ -6,7 +6,7 @@ ghost use Rattle.calls.specs.Words.{reading_words, choice_words, refusal_words};
 use section::SectionRefusal;
 use std::fmt;
 
-#[derive(Clone, Copy)]
+#[derive(Clone, Copy, PartialEq, Eq, Debug)]
 pub enum ReadingRefusal {
     // earlier than the clock
     Earlier,
@@ -41,7 +41,7 @@ impl fmt::Display for ReadingRefusal {
     }
 }
 
-#[derive(Clone, Copy)]
+#[derive(Clone, Copy, PartialEq, Eq, Debug)]
 pub enum ChoiceRefusal {
     // no service has the number
     PastTheList,
@@ -75,7 +75,7 @@ impl fmt::Display for ChoiceRefusal {
 }
 
 // Of whichever call was made.
-#[derive(Clone, Copy)]
+#[derive(Clone, Copy, PartialEq, Eq, Debug)]
 pub enum CallRefusal {
     Section(SectionRefusal),
     Reading(ReadingRefusal),

@@ -7,7 +7,8 @@ use super::answer::Answer;
 use super::refusal::{CallRefusal, ChoiceRefusal, ReadingRefusal};
 use section::SectionRefusal;
 
-#[derive(Clone, Copy)]
+// No `Result`: it has three cases, an answer, a grant and a refusal.
+#[derive(Clone, Copy, PartialEq, Eq, Debug)]
 pub enum Reply {
     // to a section
     Answered(Answer),
@@ -27,6 +28,8 @@ impl From<Result<Answer, SectionRefusal>> for Reply {
     }
 }
 
+// Tried one impl for this and the next, over each `E: Into<CallRefusal>`: it gives a relation, `converts`, in place of
+// the equation, and the proof of the receiver's `make_call` as it stands did not close.
 impl From<Result<(), ReadingRefusal>> for Reply {
     ghost from_gives = { λ given reply. reply ≡ of_reading given };
 

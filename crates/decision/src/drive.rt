@@ -13,10 +13,8 @@ fn check_sound<S: Set>(set: &S, sound: Sound) -> Result<(), SetRefusal>
     let Sound::Borrowed(k) = sound else {
         return Ok(());
     };
-    if k >= set.count() {
-        return Err(SetRefusal::PastTheList);
-    }
-    if !set.service(k).is_some_and(|service| service.apart) {
+    let service = set.service(k).ok_or(SetRefusal::PastTheList)?;
+    if !service.apart {
         return Err(SetRefusal::NotApart);
     }
     Ok(())

@@ -4,7 +4,7 @@ ghost use Rattle.decision.specs.Lookups.{bears as bearsName, holds};
 
 use station::{ChannelPair, Service, SourceId};
 
-#[derive(Clone, Copy)]
+#[derive(Clone, Copy, PartialEq, Eq, Debug)]
 pub enum Name {
     Channel(ChannelPair),
     Source(SourceId),

@@ -1,8 +1,9 @@
 -- One descriptor more in a walk, and where a walk stops. Assumes nothing.
-use Rattle.std.proofs.Common.{◌≡◌, ℕ, zero, suc, ◌+◌, ◌-◌, ◌≤◌, List, [], ◌∷◌, ◌++◌, length, get_or, take, drop, sym, ap, ◌∙◌, arith, length-drop}
+use Rattle.std.proofs.Common.{◌≡◌, ℕ, zero, suc, ◌+◌, ◌-◌, ◌≤◌, true, false, List, [], ◌∷◌, ◌++◌, ◌==◌, length, get_or, take, drop, MatchOption, IfSome, refl, sym, ap, subst, ◌∙◌, arith, length-drop}
 use Rattle.std.proofs.lemmas.List.{append-nil, append_assoc, take_rest}
 use Rattle.std.proofs.lemmas.Bool.{le-leb}
-use Rattle.document.specs.Descriptors.{Descriptor, Walked, first, walked_in}
+use Rattle.std.specs.Bool.{then_some}
+use Rattle.document.specs.Descriptors.{Descriptor, Walked, first, walked_in, ended}
 
 -- descriptors in front of what a walk meets
 abbrev pub before : List Descriptor → Walked → Walked
@@ -44,3 +45,13 @@ pub walk_done : (ds : List Descriptor) (n : ℕ) (w : Walked) (bs : List ℕ) �
 walk_done ds zero w [] z h = h ∙ rw (append-nil ds)
 walk_done ds (suc n) w [] z h = h ∙ rw (append-nil ds)
 walk_done ds n w (b ∷ bs) z h = absurd (omega arith)
+
+-- a walk that stops before one byte or none gives what it met if none is left
+pub walk_ends : {G : Type 0} (T : List Descriptor → G → Type 0) (ds : List Descriptor) (n : ℕ) (w : Walked) (bs : List ℕ) (g : G) → length bs ≤ 1 → length bs ≤ n → w ≡ before ds (walked_in n bs) → T ds g
+    → MatchOption (then_some (length bs == 0) g) (ended w ≡ false) (λ _. ended w ≡ true) × IfSome (then_some (length bs == 0) g) (λ k. T w.whole k)
+walk_ends T ds n w [] g k m h t =
+    let e = walk_done ds n w [] refl h in
+    (ap ended e, subst (λ (x : Walked). T x.whole g) (sym e) t)
+walk_ends T ds zero w (b ∷ []) g k m h t = absurd (omega arith)
+walk_ends T ds (suc n) w (b ∷ []) g k m h t = (ap ended h, tt)
+walk_ends T ds n w (b ∷ (a ∷ bs)) g k m h t = absurd (omega arith)

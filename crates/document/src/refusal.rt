@@ -6,7 +6,7 @@ ghost use Rattle.document.specs.declared.refusal.DocumentRefusal.TheVariants.{Se
 use section::SectionRefusal;
 use std::fmt;
 
-#[derive(Clone, Copy)]
+#[derive(Clone, Copy, PartialEq, Eq, Debug)]
 pub enum DocumentRefusal {
     // the section itself is refused
     Section(SectionRefusal),

@@ -36,7 +36,8 @@ impl<'a> Gathering<'a> {
         }
     }
 
-    // Takes in the bytes of a metadata descriptor.
+    // Takes in the bytes of a metadata descriptor. Both `requires` stay: no type holds the length of a body that is
+    // given, nor how many were met.
     pub(crate) fn meet(&mut self, body: &'a [u8])
         requires brief { length body.now < 256 }
         requires room { self.old.count < 1024 }

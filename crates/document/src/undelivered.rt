@@ -9,7 +9,7 @@ use crate::unfilled::FillRefusal;
 use crate::withheld::HandOutRefusal;
 use std::fmt;
 
-#[derive(Clone, Copy)]
+#[derive(Clone, Copy, PartialEq, Eq, Debug)]
 pub enum DeliveryRefusal {
     // the document is not gathered
     Gather(DocumentRefusal),

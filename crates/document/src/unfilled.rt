@@ -4,7 +4,7 @@ ghost use Rattle.document.specs.Refusals.{fill_number, fill_words};
 
 use std::fmt;
 
-#[derive(Clone, Copy)]
+#[derive(Clone, Copy, PartialEq, Eq, Debug)]
 pub enum FillRefusal {
     // more than 1,024 bytes of words
     Words,

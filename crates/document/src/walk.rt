@@ -23,9 +23,5 @@ pub(crate) fn walk(area: &[u8]) -> Option<Gathering<'_>>
         }
         rest = next;
     }
-    if rest.is_empty() {
-        Some(gathering)
-    } else {
-        None
-    }
+    rest.is_empty().then_some(gathering)
 }

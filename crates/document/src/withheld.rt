@@ -5,7 +5,7 @@ ghost use Rattle.document.specs.Refusals.{hand_out_number, hand_out_words};
 use std::fmt;
 
 // Each of the three calls has refusals of its own, so that none is answered that the call cannot give.
-#[derive(Clone, Copy)]
+#[derive(Clone, Copy, PartialEq, Eq, Debug)]
 pub enum HandOutRefusal {
     // the buffer is shorter than the filled document
     Short,

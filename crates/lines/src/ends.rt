@@ -2,13 +2,13 @@
 ghost use Rattle.std.specs.Prelude.{◌≡◌};
 ghost use Rattle.lines.specs.Ends.{has_feed, unreturned};
 
-use crate::marks::mark_at;
+use memchr::memchr;
 
 // Whether there is a line feed among the bytes.
 pub fn has_feed(bytes: &[u8]) -> bool
     ensures value { result ≡ has_feed bytes.now }
 {
-    mark_at(bytes, b'\n') < bytes.len()
+    memchr(b'\n', bytes).is_some()
 }
 
 // Without one carriage return at its end.

@@ -62,6 +62,7 @@ fn put_pairs(text: &[u8], room: &mut [u8])
 }
 
 // The bytes that `text` stands for, at the front of `room`: how many they are.
+// Not by `hex::decode_to_slice`: that finds an odd length before a wrong digit, wants a room of just that length, and may change it before a wrong digit.
 pub fn decode(text: &[u8], room: &mut [u8]) -> Result<usize, HexRefusal>
     ensures value { result ≡ outcome text.now (length room.old) }
     ensures after { MatchResult result (λ n. room.new ≡ decoded text.now ++ drop n room.old) (λ _. room.new ≡ room.old) }

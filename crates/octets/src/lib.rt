@@ -5,4 +5,4 @@ mod fixed;
 mod places;
 
 pub use fixed::{Fixed, Full};
-pub use places::{byte_at, ten_bits, word_at};
+pub use places::{after, byte_at, ten_bits, word_at};

@@ -1,10 +1,17 @@
 // Bytes and numbers at a place; past the end there are zeros.
-ghost use Rattle.std.specs.Prelude.{◌≡◌, ◌+◌, ◌*◌, ◌%◌, slice_index};
+ghost use Rattle.std.specs.Prelude.{◌≡◌, ◌+◌, ◌*◌, ◌%◌, drop, slice_index};
 
 pub fn byte_at(bytes: &[u8], at: usize) -> u8
     ensures value { result ≡ slice_index bytes.now at }
 {
     bytes.get(at).copied().unwrap_or(0)
+}
+
+// What follows the first `n` bytes.
+pub fn after(bytes: &[u8], n: usize) -> &[u8]
+    ensures value { result.now ≡ drop n bytes.now }
+{
+    bytes.get(n..).unwrap_or(&[])
 }
 
 // Two bytes as a number, the first highest.

@@ -15,7 +15,11 @@ abbrev pub Adds : List ℕ → List ℕ → Result (Unit {0}) AllocError → Lis
 Adds before more (Ok u) after = after ≡ before ++ more
 Adds before more (Err e) after = after ≡ before
 
--- a key and a number at the end; where there is no memory, the key or nothing
+-- a key and a text at the end; where there is no memory, the key or nothing
+abbrev pub AddsKeyed : List ℕ → List ℕ → List ℕ → Result (Unit {0}) AllocError → List ℕ → Type 0
+AddsKeyed before key text (Ok u) after = after ≡ before ++ (key ++ text)
+AddsKeyed before key text (Err e) after = (after ≡ before) ⊎ (after ≡ before ++ key)
+
+-- a key and a number
 abbrev pub AddsField : List ℕ → List ℕ → ℕ → Result (Unit {0}) AllocError → List ℕ → Type 0
-AddsField before key n (Ok u) after = after ≡ before ++ (key ++ decimal n)
-AddsField before key n (Err e) after = (after ≡ before) ⊎ (after ≡ before ++ key)
+AddsField before key n result after = AddsKeyed before key (decimal n) result after

@@ -1,9 +1,9 @@
 // A record that is put together piece by piece.
-ghost use Rattle.std.specs.Prelude.{◌≡◌, [], decimal as digitsOf};
-ghost use Rattle.records.specs.Written.{Adds, AddsField, in_hex};
+ghost use Rattle.std.specs.Prelude.{◌≡◌, []};
+ghost use Rattle.records.specs.Written.{Adds, AddsKeyed, in_hex};
 
 use super::hex::in_hex;
-use itoa::Buffer;
+use itoa::{Buffer, Integer};
 use std::alloc::{AllocError, Global};
 
 #[derive(Drop)]
@@ -39,16 +39,16 @@ impl Record {
     }
 
     // In decimal.
-    pub fn number(&mut self, n: u64) -> Result<(), AllocError>
-        ensures { Adds self.old.held.items (digitsOf n) result self.new.held.items }
+    pub fn number<I: Integer>(&mut self, n: I) -> Result<(), AllocError>
+        ensures { Adds self.old.held.items (I.text n) result self.new.held.items }
     {
         self.held
             .extend_from_slice(Buffer::new().format(n).as_bytes())
     }
 
     // A key and a number in decimal. Without memory for the number, the key alone may be held.
-    pub fn field(&mut self, key: &[u8], n: u64) -> Result<(), AllocError>
-        ensures { AddsField self.old.held.items key.now n result self.new.held.items }
+    pub fn field<I: Integer>(&mut self, key: &[u8], n: I) -> Result<(), AllocError>
+        ensures { AddsKeyed self.old.held.items key.now (I.text n) result self.new.held.items }
     {
         self.text(key)?;
         self.number(n)

@@ -1,5 +1,7 @@
 // The lines of the script, and the answers to them.
-ghost use Rattle.std.specs.Prelude.{◌≡◌, ◌+◌, ◌-◌, ◌^◌, min, [], OnOk, vec_items};
+ghost use Rattle.std.specs.Prelude.{◌≡◌, ◌+◌, ◌-◌, ◌^◌, min, [], IfOk, OnOk, vec_items, codes};
+ghost use Rattle.rehearse.specs.Printed.{numbered};
+ghost use Rattle.rehearse.specs.Told.{Tells};
 
 use crate::input::Input;
 use crate::output::Output;
@@ -13,7 +15,9 @@ pub struct Exchange {
 }
 
 impl Exchange {
-    pub fn new(rt: &HostRuntime) -> io::Result<Exchange> {
+    pub fn new(rt: &HostRuntime) -> io::Result<Exchange>
+        ensures { IfOk result (λ x. (x.input.number ≡ 0) × (vec_items x.output.printer.record.held ≡ []) × (x.output.printer.outcome ≡ Ok tt)) }
+    {
         Ok(Exchange {
             input: Input::new(rt)?,
             output: Output::new(rt)?,
@@ -30,10 +34,18 @@ impl Exchange {
         self.input.next()
     }
 
+    // Prints the number of the line, and writes nothing yet.
+    fn print_not_understood(&mut self)
+        ensures { Tells self.old.output.printer self.new.output.printer (numbered (codes "call=none line=") self.old.input.number) }
+    {
+        self.output.printer.not_understood(self.input.number());
+    }
+
     pub fn not_understood(&mut self) -> io::Result<()>
         ensures { OnOk result (vec_items self.new.output.printer.record.held ≡ []) }
     {
-        self.output.not_understood(self.input.number())
+        self.print_not_understood();
+        self.output.write()
     }
 
     // Answers what was read already, and then each line to the end of the script.

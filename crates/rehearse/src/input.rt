@@ -1,5 +1,7 @@
 // The lines of the script, one after another.
-ghost use Rattle.std.specs.Prelude.{◌≡◌, ◌+◌, ◌-◌, ◌^◌, min, take};
+ghost use Rattle.std.specs.Prelude.{◌≡◌, ◌+◌, ◌-◌, ◌^◌, min, take, IfOk};
+ghost use Rattle.std.specs.Io.Buffered.{reader_buffer};
+ghost use Rattle.lines.specs.Ends.{has_feed};
 
 use lines::LineBuffer;
 use script::{Asked, read_line};
@@ -23,7 +25,9 @@ pub struct Input {
 }
 
 impl Input {
-    pub fn new(rt: &HostRuntime) -> io::Result<Input> {
+    pub fn new(rt: &HostRuntime) -> io::Result<Input>
+        ensures { IfOk result (λ input. input.number ≡ 0) }
+    {
         Ok(Input {
             reader: BufReader::new(rt.alloc(), rt.stdin())?,
             line: LineBuffer::new(rt.alloc(), MOST),
@@ -33,7 +37,9 @@ impl Input {
     }
 
     // Whether the next line is held, so that no read for it can wait.
-    pub fn has_line(&self) -> bool {
+    pub fn has_line(&self) -> bool
+        ensures { result ≡ has_feed (reader_buffer self.now.reader) }
+    {
         lines::has_feed(self.reader.buffer())
     }
 

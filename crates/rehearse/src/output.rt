@@ -1,5 +1,5 @@
 // Where the answers go.
-ghost use Rattle.std.specs.Prelude.{◌≡◌, [], OnOk, vec_items};
+ghost use Rattle.std.specs.Prelude.{◌≡◌, [], IfOk, OnOk, vec_items};
 
 use crate::printer::Printer;
 use std::io;
@@ -12,7 +12,9 @@ pub struct Output {
 }
 
 impl Output {
-    pub fn new(rt: &HostRuntime) -> io::Result<Output> {
+    pub fn new(rt: &HostRuntime) -> io::Result<Output>
+        ensures { IfOk result (λ output. (vec_items output.printer.record.held ≡ []) × (output.printer.outcome ≡ Ok tt)) }
+    {
         Ok(Output {
             writer: BufWriter::new(rt.alloc(), rt.stdout())?,
             printer: Printer::new(rt.alloc()),

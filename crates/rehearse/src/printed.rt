@@ -1,20 +1,20 @@
 // The lines that are printed.
-ghost use Rattle.std.specs.Prelude.{codes};
+ghost use Rattle.std.specs.Prelude.{◌++◌, codes};
 ghost use Rattle.rehearse.specs.Printed.{Prints, field, numbered, sound_of, alert_of, entry_of, caption_of, state_of, answer_of, call_line, begin_line, document_lines, undelivered};
 
 use crate::shown::Shown;
+use itoa::Integer;
 use records::Record;
 use section::EventId;
 use sets::Sound;
 use std::alloc::AllocError;
 
-// The number of a service, here and below, by `as`: as in Rust there is no `From<usize>` for `u64`.
 fn put_sound(out: &mut Record, sound: Sound) -> Result<(), AllocError>
     ensures { Prints out.old.held.items (sound_of sound) result out.new.held.items }
 {
     match sound {
         Sound::Own => out.text(b" sound=own"),
-        Sound::Borrowed(number) => out.field(b" sound=", number as u64),
+        Sound::Borrowed(number) => out.field(b" sound=", number),
     }
 }
 
@@ -22,7 +22,7 @@ fn put_alert(out: &mut Record, alert: Option<EventId>) -> Result<(), AllocError>
     ensures { Prints out.old.held.items (alert_of alert) result out.new.held.items }
 {
     match alert {
-        Some(event) => out.field(b" alert=", u64::from(event.0)),
+        Some(event) => out.field(b" alert=", event.0),
         None => out.text(b" alert=none"),
     }
 }
@@ -31,7 +31,7 @@ fn put_entry(out: &mut Record, entry: Option<usize>) -> Result<(), AllocError>
     ensures { Prints out.old.held.items (entry_of entry) result out.new.held.items }
 {
     match entry {
-        Some(entry) => out.field(b" entry=", entry as u64),
+        Some(entry) => out.field(b" entry=", entry),
         None => Ok(()),
     }
 }
@@ -47,38 +47,36 @@ fn put_caption(out: &mut Record, caption: &[u8]) -> Result<(), AllocError>
 fn put_state(out: &mut Record, shown: &Shown<'_>) -> Result<(), AllocError>
     ensures { Prints out.old.held.items (state_of shown.now) result out.new.held.items }
 {
-    out.field(b" home=", shown.home as u64)?;
-    out.field(b" screen=", shown.screen as u64)?;
+    out.field(b" home=", shown.home)?;
+    out.field(b" screen=", shown.screen)?;
     put_sound(out, shown.sound)?;
     put_alert(out, shown.alert)?;
     put_caption(out, shown.caption)
 }
 
-fn put_answer(
-    out: &mut Record,
-    name: &[u8],
-    answer: u8,
-    entry: Option<usize>,
-) -> Result<(), AllocError>
-    ensures { Prints out.old.held.items (answer_of name.now answer entry) result out.new.held.items }
+// What a call is answered.
+#[derive(Clone, Copy, PartialEq, Eq, Debug)]
+pub struct Answer<'a> {
+    // the call's
+    pub name: &'a [u8],
+    pub number: u8,
+    pub entry: Option<usize>,
+}
+
+fn put_answer(out: &mut Record, answer: &Answer<'_>) -> Result<(), AllocError>
+    ensures { Prints out.old.held.items (answer_of answer.now.name.now answer.now.number answer.now.entry) result out.new.held.items }
 {
     out.text(b"call=")?;
-    out.text(name)?;
-    out.field(b" answer=", u64::from(answer))?;
-    put_entry(out, entry)
+    out.text(answer.name)?;
+    out.field(b" answer=", answer.number)?;
+    put_entry(out, answer.entry)
 }
 
 // What came of a call.
-pub fn put_call(
-    out: &mut Record,
-    name: &[u8],
-    answer: u8,
-    entry: Option<usize>,
-    shown: &Shown<'_>,
-) -> Result<(), AllocError>
-    ensures { Prints out.old.held.items (call_line name.now answer entry shown.now) result out.new.held.items }
+pub fn put_call(out: &mut Record, answer: &Answer<'_>, shown: &Shown<'_>) -> Result<(), AllocError>
+    ensures { Prints out.old.held.items (call_line answer.now.name.now answer.now.number answer.now.entry shown.now) result out.new.held.items }
 {
-    put_answer(out, name, answer, entry)?;
+    put_answer(out, answer)?;
     put_state(out, shown)
 }
 
@@ -91,8 +89,8 @@ pub fn put_begin(out: &mut Record, shown: &Shown<'_>) -> Result<(), AllocError>
 }
 
 // A line of a key and a number.
-fn put_numbered(out: &mut Record, key: &[u8], number: u64) -> Result<(), AllocError>
-    ensures { Prints out.old.held.items (numbered key.now number) result out.new.held.items }
+fn put_numbered<I: Integer>(out: &mut Record, key: &[u8], number: I) -> Result<(), AllocError>
+    ensures { Prints out.old.held.items ((key.now ++ I.text number) ++ codes "\n") result out.new.held.items }
 {
     out.field(key, number)?;
     out.text(b"\n")
@@ -101,7 +99,7 @@ fn put_numbered(out: &mut Record, key: &[u8], number: u64) -> Result<(), AllocEr
 pub fn put_begin_refused(out: &mut Record, number: u8) -> Result<(), AllocError>
     ensures { Prints out.old.held.items (numbered (codes "call=begin refused=") number) result out.new.held.items }
 {
-    put_numbered(out, b"call=begin refused=", u64::from(number))
+    put_numbered(out, b"call=begin refused=", number)
 }
 
 pub fn put_not_understood(out: &mut Record, line: u64) -> Result<(), AllocError>
@@ -113,7 +111,7 @@ pub fn put_not_understood(out: &mut Record, line: u64) -> Result<(), AllocError>
 pub fn put_document(out: &mut Record, bytes: &[u8]) -> Result<(), AllocError>
     ensures { Prints out.old.held.items (document_lines bytes.now) result out.new.held.items }
 {
-    put_numbered(out, b"call=document bytes=", bytes.len() as u64)?;
+    put_numbered(out, b"call=document bytes=", bytes.len())?;
     out.text(bytes)?;
     out.text(b"\n")
 }
@@ -122,7 +120,7 @@ pub fn put_document(out: &mut Record, bytes: &[u8]) -> Result<(), AllocError>
 pub fn put_undelivered(out: &mut Record, number: u8, call: &[u8]) -> Result<(), AllocError>
     ensures { Prints out.old.held.items (undelivered number call.now) result out.new.held.items }
 {
-    out.field(b"call=document refused=", u64::from(number))?;
+    out.field(b"call=document refused=", number)?;
     out.text(b" by=")?;
     out.text(call)?;
     out.text(b"\n")

@@ -8,7 +8,8 @@ ghost use Rattle.rehearse.specs.Told.{name_of, Tells, TellsSet};
 ghost use Rattle.rehearse.specs.declared.shown.Shown.{Shown};
 
 use crate::printed::{
-    put_begin, put_begin_refused, put_call, put_document, put_not_understood, put_undelivered,
+    Answer, put_begin, put_begin_refused, put_call, put_document, put_not_understood,
+    put_undelivered,
 };
 use crate::shown::{Shown, shown_by};
 use calls::{Call, Reply};
@@ -89,10 +90,10 @@ impl Printer {
         self.keep(result);
     }
 
-    fn called(&mut self, name: &[u8], answer: u8, entry: Option<usize>, shown: &Shown<'_>)
-        ensures { Tells self.old self.new (call_line name.now answer entry shown.now) }
+    fn called(&mut self, answer: &Answer<'_>, shown: &Shown<'_>)
+        ensures { Tells self.old self.new (call_line answer.now.name.now answer.now.number answer.now.entry shown.now) }
     {
-        let result = put_call(&mut self.record, name, answer, entry, shown);
+        let result = put_call(&mut self.record, answer, shown);
         self.keep(result);
     }
 
@@ -133,6 +134,11 @@ impl<S: Shows> Watch<S> for Printer {
 
     fn watch(&mut self, call: &Call<'_>, reply: Reply, receiver: &Receiver<S>) {
         let shown = shown_by(receiver);
-        self.called(name_of(call), reply.number(), reply.entry(), &shown);
+        let answer = Answer {
+            name: name_of(call),
+            number: reply.number(),
+            entry: reply.entry(),
+        };
+        self.called(&answer, &shown);
     }
 }

@@ -53,13 +53,9 @@ impl Setup {
                 self.table.push(service)?;
             }
         }
-        match self.settings.with(setting) {
-            Some(settings) => {
-                self.settings = settings;
-                Ok(true)
-            }
-            None => Ok(false),
-        }
+        let taken = self.settings.with(setting);
+        self.settings = taken.unwrap_or(self.settings);
+        Ok(taken.is_some())
     }
 
     // Takes the set-up lines, and says what the line that ends the set-up asks for besides; none at the end of the script.

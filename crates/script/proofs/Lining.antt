@@ -1,8 +1,10 @@
 -- What a line asks for by its tests, and the room that words leave as it was. Assumes nothing.
-use Rattle.std.proofs.Common.{◌≡◌, ℕ, Bool, true, false, cond, leb, List, length, Some, None, codes, Option, refl, ap, ◌∙◌}
+use Rattle.std.proofs.Common.{◌≡◌, ℕ, Bool, true, false, cond, leb, List, length, Some, None, codes, Option, MatchOption, Bor, refl, sym, ap, ◌∙◌}
 use Rattle.std.specs.Str.{bytes_eq}
 use Rattle.lines.specs.Ends.{unreturned, is_comment}
+use Rattle.lines.specs.Held.{Holds, OfLine}
 use Rattle.lines.specs.Keys.{after, pairs}
+use Rattle.lines.specs.declared.buffer.LineBuffer.{LineBuffer}
 use Rattle.script.specs.declared.asked.Asked.{Asked}
 use Rattle.script.specs.declared.asked.Asked.TheVariants.{Nothing, Setting, Begin, Section, Document, Tick, Choose, Unknown}
 use Rattle.script.specs.Lines.{line_asks, room_for}
@@ -40,3 +42,15 @@ words_leave room text words =
 pub either_way : (b : Bool) (xs ys : List ℕ) → xs ≡ ys → cond b xs ys ≡ ys
 either_way true xs ys e = e
 either_way false xs ys e = refl
+
+-- a line that is kept whole asks for its words, another for nothing known
+pub whole_asks : (o : Option (Bor (List ℕ))) (held : LineBuffer) (line : List ℕ) (r : Asked) → Holds held line
+    → MatchOption o (OfLine held (λ text. leb (length text) held.most ≡ false)) (λ t. OfLine held (λ text. (leb (length text) held.most ≡ true) × (t.now ≡ unreturned text)))
+    → MatchOption o (r ≡ Unknown) (λ t. r ≡ words_ask t.now) → r ≡ cond (leb (length line) held.most) (words_ask (unreturned line)) Unknown
+whole_asks None held line r h a b = b ∙ sym (ap (λ x. cond x (words_ask (unreturned line)) Unknown) (a line h))
+whole_asks (Some t) held line r h a b = b ∙ ap words_ask (a line h).1 ∙ sym (ap (λ x. cond x (words_ask (unreturned line)) Unknown) (a line h).0)
+
+-- and neither puts anything into the room
+pub whole_leaves : (o : Option (Bor (List ℕ))) (room text : List ℕ) (r : Asked) → MatchOption o (r ≡ Unknown) (λ t. r ≡ words_ask t.now) → room_for room text r ≡ room
+whole_leaves None room text r b = ap (room_for room text) b
+whole_leaves (Some t) room text r b = ap (room_for room text) b ∙ words_leave room text t.now

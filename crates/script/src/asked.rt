@@ -2,14 +2,14 @@
 use crate::spot::Spot;
 use station::{Path, Service};
 
-#[derive(Clone, Copy)]
+#[derive(Clone, Copy, PartialEq, Eq, Debug)]
 pub enum SetKind {
     Bus,
     Map,
 }
 
 // What a line of the set-up settles.
-#[derive(Clone, Copy)]
+#[derive(Clone, Copy, PartialEq, Eq, Debug)]
 pub enum Setting {
     Set(SetKind),
     // one more service of the map
@@ -21,7 +21,7 @@ pub enum Setting {
     Clock(u32),
 }
 
-#[derive(Clone, Copy)]
+#[derive(Clone, Copy, PartialEq, Eq, Debug)]
 pub enum Asked {
     // an empty line or a comment
     Nothing,

@@ -9,7 +9,7 @@ use crate::spot::Spot;
 use sets::{ChannelMap, TableRefusal};
 use station::{Path, Place, PlaceRefusal, Service};
 
-#[derive(Clone, Copy)]
+#[derive(Clone, Copy, PartialEq, Eq, Debug)]
 pub struct Beginning {
     pub kind: SetKind,
     pub start: usize,
@@ -19,7 +19,7 @@ pub struct Beginning {
 }
 
 // Why a receiver does not begin.
-#[derive(Clone, Copy)]
+#[derive(Clone, Copy, PartialEq, Eq, Debug)]
 pub enum BeginRefusal {
     Table(TableRefusal),
     Place(PlaceRefusal),

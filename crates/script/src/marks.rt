@@ -35,7 +35,7 @@ impl Marks {
     }
 }
 
-// The marks that a text names, with commas between them.
+// The marks that a text names, with commas between them. Tried `try_fold` over `split`: the proof did not close.
 pub(crate) fn read_marks(text: &[u8]) -> Option<Marks>
     ensures value { result ≡ marks_from unmarked [] text.now }
 {

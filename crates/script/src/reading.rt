@@ -22,8 +22,5 @@ pub fn read_line(line: &LineBuffer, room: &mut [u8]) -> Asked
     if let Some(size) = hex_value(line, b"document=", room) {
         return Asked::Document(size);
     }
-    match whole_text(line) {
-        Some(text) => read_words(text),
-        None => Asked::Unknown,
-    }
+    whole_text(line).map_or(Asked::Unknown, read_words)
 }

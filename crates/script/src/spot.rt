@@ -5,7 +5,7 @@ ghost use Rattle.station.specs.declared.refusal.PlaceRefusal.TheVariants.{Range}
 
 use station::{Place, PlaceRefusal};
 
-#[derive(Clone, Copy)]
+#[derive(Clone, Copy, PartialEq, Eq, Debug)]
 pub struct Spot {
     pub state: u32,
     pub county: u32,
@@ -17,13 +17,9 @@ impl Spot {
     pub fn place(self) -> Result<Place, PlaceRefusal>
         ensures cases { MatchResult result (λ p. (ranged self.state self.county self.part ≡ true) × (p.state ≡ self.state) × (p.county ≡ self.county) × (p.part ≡ self.part)) (λ e. (ranged self.state self.county self.part ≡ false) × (e ≡ Range)) }
     {
-        let (Ok(state), Ok(county), Ok(part)) = (
-            u8::try_from(self.state),
-            u16::try_from(self.county),
-            u8::try_from(self.part),
-        ) else {
-            return Err(PlaceRefusal::Range);
-        };
+        let state = u8::try_from(self.state).map_err(|_| PlaceRefusal::Range)?;
+        let county = u16::try_from(self.county).map_err(|_| PlaceRefusal::Range)?;
+        let part = u8::try_from(self.part).map_err(|_| PlaceRefusal::Range)?;
         Place::new(state, county, part)
     }
 }

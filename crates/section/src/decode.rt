@@ -16,7 +16,7 @@ impl<'a> Laid<'a> {
         word_at(self.bytes, self.layout.times + usize::from(past))
     }
 
-    // Four bytes as a number, the first highest: two words, as the other numbers are read.
+    // Four bytes as a number, the first highest: two words, where `from_be_bytes` would ask for four bytes.
     fn start_time(&self) -> StartTime
         ensures value { result ≡ record { 0 = start_of self.now.bytes.now } }
     {

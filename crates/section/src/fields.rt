@@ -2,29 +2,29 @@
 use station::{ChannelPair, SourceId};
 
 // 5 bits
-#[derive(Clone, Copy, PartialEq, Eq)]
+#[derive(Clone, Copy, PartialEq, Eq, Debug)]
 pub struct SequenceNumber(pub u8);
 
-#[derive(Clone, Copy)]
+#[derive(Clone, Copy, PartialEq, Eq, Debug)]
 pub struct EventId(pub u16);
 
 // how long an alert still lasts
-#[derive(Clone, Copy)]
+#[derive(Clone, Copy, PartialEq, Eq, Debug)]
 pub struct Seconds(pub u8);
 
 // seconds since the start of 6 January 1980, or 0 for an event that is on
-#[derive(Clone, Copy)]
+#[derive(Clone, Copy, PartialEq, Eq, Debug)]
 pub struct StartTime(pub u32);
 
 // how long an event lasts
-#[derive(Clone, Copy)]
+#[derive(Clone, Copy, PartialEq, Eq, Debug)]
 pub struct Minutes(pub u16);
 
 // 4 bits
-#[derive(Clone, Copy)]
+#[derive(Clone, Copy, PartialEq, Eq, Debug)]
 pub struct Priority(pub u8);
 
-#[derive(Clone, Copy)]
+#[derive(Clone, Copy, PartialEq, Eq, Debug)]
 pub struct Fields {
     pub sequence: SequenceNumber,
     pub event_id: EventId,

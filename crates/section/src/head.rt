@@ -1,5 +1,5 @@
-// The head of a section, its first nine bytes, and the body after it.
-ghost use Rattle.std.specs.Prelude.{◌≡◌, ◌+◌, ◌*◌, ◌/◌, ◌%◌, ◌<◌, ◌≤◌, length, drop, slice_index, MatchOption};
+// The head of a section, its first nine bytes.
+ghost use Rattle.std.specs.Prelude.{◌≡◌, ◌+◌, ◌*◌, ◌/◌, ◌%◌, ◌<◌, ◌≤◌, length, slice_index, MatchOption};
 
 // The numbers of the head, and the bytes that state them.
 #[derive(Clone, Copy)]
@@ -10,30 +10,26 @@ pub struct Head<'a> {
     pub syntax: u8,
     pub section_length: u16,
     pub extension: u16,
-    pub sequence: u8,
     pub current: u8,
     pub section_number: u8,
     pub last_section_number: u8,
     pub protocol_version: u8,
-    pub body: &'a [u8],
     ghost long: { 9 ≤ length bytes.now },
     ghost table: { table_id ≡ slice_index bytes.now 0 },
     ghost form: { syntax ≡ slice_index bytes.now 1 / 64 },
     ghost stated: { section_length ≡ (slice_index bytes.now 1 * 256 + slice_index bytes.now 2) % 4096 },
     ghost extended: { extension ≡ slice_index bytes.now 3 * 256 + slice_index bytes.now 4 },
-    ghost numbered: { sequence ≡ slice_index bytes.now 5 / 2 % 32 },
     ghost currently: { current ≡ slice_index bytes.now 5 % 2 },
     ghost first: { section_number ≡ slice_index bytes.now 6 },
     ghost last: { last_section_number ≡ slice_index bytes.now 7 },
     ghost version: { protocol_version ≡ slice_index bytes.now 8 },
-    ghost follows: { body.now ≡ drop 9 bytes.now },
 }
 
-// The head and the body, where there are nine bytes.
+// The head, where there are nine bytes.
 pub(crate) fn split_head(bytes: &[u8]) -> Option<Head<'_>>
     ensures cases { MatchOption result (length bytes.now < 9) (λ h. h.bytes.now ≡ bytes.now) }
 {
-    let (head, body) = bytes.split_first_chunk::<9>()?;
+    let head = bytes.first_chunk::<9>()?;
     let [
         table_id,
         length_high,
@@ -51,11 +47,9 @@ pub(crate) fn split_head(bytes: &[u8]) -> Option<Head<'_>>
         syntax: length_high / 64,
         section_length: u16::from_be_bytes([length_high % 16, length_low]),
         extension: u16::from_be_bytes([extension_high, extension_low]),
-        sequence: version / 2 % 32,
         current: version % 2,
         section_number,
         last_section_number,
         protocol_version,
-        body,
     })
 }

@@ -1,10 +1,10 @@
 // The ranges that a section's numbers keep.
-ghost use Rattle.std.specs.Prelude.{◌≡◌, drop};
+ghost use Rattle.std.specs.Prelude.{◌≡◌};
 ghost use Rattle.section.specs.Rules.{located, all_located, bounded, ranged};
 
 use super::bytes::part_of;
 use super::laid::Laid;
-use octets::{byte_at, ten_bits};
+use octets::{after, byte_at, ten_bits};
 
 // One location entry, at the front.
 fn is_located(entry: &[u8]) -> bool
@@ -13,24 +13,17 @@ fn is_located(entry: &[u8]) -> bool
     byte_at(entry, 0) <= 99 && byte_at(entry, 1) / 16 <= 9 && ten_bits(entry, 1) <= 999
 }
 
-// What follows an entry.
-fn after_entry(entries: &[u8]) -> &[u8]
-    ensures value { result.now ≡ drop 3 entries.now }
-{
-    entries.get(3..).unwrap_or(&[])
-}
-
 // So many location entries, one after another.
 fn all_located(count: u8, entries: &[u8]) -> bool
     ensures value { result ≡ all_located count entries.now }
 {
     let mut rest = entries;
-    // Entries past the bytes are zeros and count as well, so no chunks of the slice would do.
+    // Entries past the bytes are zeros, and count: over `chunks` a line would have to say why they are in range.
     for _ in 0..count {
         if !is_located(rest) {
             return false;
         }
-        rest = after_entry(rest);
+        rest = after(rest, 3);
     }
     true
 }

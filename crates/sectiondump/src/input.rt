@@ -9,7 +9,7 @@ use lines::{LineBuffer, hex_value, is_comment};
 // No well-formed section is longer.
 pub const ROOM: usize = 4096;
 
-#[derive(Clone, Copy)]
+#[derive(Clone, Copy, PartialEq, Eq, Debug)]
 pub enum Asked {
     // an empty line or a comment
     Nothing,
@@ -26,8 +26,5 @@ pub fn read(line: &LineBuffer, room: &mut [u8]) -> Asked
     if is_comment(line) {
         return Asked::Nothing;
     }
-    match hex_value(line, b"section=", room) {
-        Some(size) => Asked::Section(size),
-        None => Asked::Unknown,
-    }
+    hex_value(line, b"section=", room).map_or(Asked::Unknown, Asked::Section)
 }

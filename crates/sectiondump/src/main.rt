@@ -51,6 +51,7 @@ fn run(rt: &HostRuntime) -> io::Result<()> {
     let mut record = Record::new(rt.alloc());
     let mut room = [0u8; ROOM];
     let mut sections = 0u64;
+    // input may have no end, so that no measure falls in a `while let`; the number is that of the line
     for number in 1..u64::MAX {
         // Before a read that may wait, all answers are out.
         if input.buffer().is_empty() {

@@ -6,7 +6,7 @@ use std::alloc::AllocError;
 use text::Text;
 
 // Which section of the input it is, from 1, and how many bytes it has.
-#[derive(Clone, Copy)]
+#[derive(Clone, Copy, PartialEq, Eq, Debug)]
 pub struct Heading {
     pub number: u64,
     pub size: u64,
@@ -47,7 +47,7 @@ pub fn refused(
     refusal: SectionRefusal,
 ) -> Result<(), AllocError> {
     opening(out, heading)?;
-    out.field(b" refused=", u64::from(refusal.number()))?;
+    out.field(b" refused=", refusal.number())?;
     out.text(b" ")?;
     out.text(refusal.cause().as_bytes())?;
     out.text(b"\n")
@@ -77,37 +77,33 @@ fn taken(out: &mut Record, heading: Heading, c: &Contents<'_>) -> Result<(), All
     out.text(c.text.as_bytes())?;
     locations(out, c.locations.bytes)?;
     exceptions(out, c.exceptions.bytes)?;
-    // here and below: as in Rust there is no `From<usize>` for `u64`
-    out.field(b"\n  descriptors=", c.descriptors.bytes.len() as u64)?;
-    out.field(b" at=", c.descriptors.at as u64)?;
+    out.field(b"\n  descriptors=", c.descriptors.bytes.len())?;
+    out.field(b" at=", c.descriptors.at)?;
     out.text(b"\n")
 }
 
 fn identity(out: &mut Record, c: &Contents<'_>) -> Result<(), AllocError> {
-    out.field(b"\n  sequence=", u64::from(c.fields.sequence.0))?;
-    out.field(b"\n  event_id=", u64::from(c.fields.event_id.0))?;
+    out.field(b"\n  sequence=", c.fields.sequence.0)?;
+    out.field(b"\n  event_id=", c.fields.event_id.0)?;
     out.text(b"\n  originator=")?;
     code(out, &c.fields.originator)?;
     out.text(b"\n  event_code=")?;
     code(out, c.event_code.bytes)?;
-    out.field(b" at=", c.event_code.at as u64)
+    out.field(b" at=", c.event_code.at)
 }
 
 fn times(out: &mut Record, fields: &Fields) -> Result<(), AllocError> {
-    out.field(b"\n  seconds=", u64::from(fields.seconds.0))?;
-    out.field(b"\n  start=", u64::from(fields.start.0))?;
-    out.field(b"\n  duration=", u64::from(fields.duration.0))?;
-    out.field(b"\n  priority=", u64::from(fields.priority.0))
+    out.field(b"\n  seconds=", fields.seconds.0)?;
+    out.field(b"\n  start=", fields.start.0)?;
+    out.field(b"\n  duration=", fields.duration.0)?;
+    out.field(b"\n  priority=", fields.priority.0)
 }
 
 fn services(out: &mut Record, fields: &Fields) -> Result<(), AllocError> {
-    out.field(b"\n  details_source=", u64::from(fields.details_source.0))?;
-    out.field(
-        b"\n  details_channel=",
-        u64::from(fields.details_channel.major),
-    )?;
-    out.field(b"-", u64::from(fields.details_channel.minor))?;
-    out.field(b"\n  audio_source=", u64::from(fields.audio_source.0))
+    out.field(b"\n  details_source=", fields.details_source.0)?;
+    out.field(b"\n  details_channel=", fields.details_channel.major)?;
+    out.field(b"-", fields.details_channel.minor)?;
+    out.field(b"\n  audio_source=", fields.audio_source.0)
 }
 
 // As text where every byte is a visible character, else in hexadecimal.
@@ -130,9 +126,9 @@ fn locations(out: &mut Record, bytes: &[u8]) -> Result<(), AllocError> {
     let (entries, _) = bytes.as_chunks::<3>();
     for entry in entries {
         let location = Location::read(entry);
-        out.field(b"\n  location=", u64::from(location.state))?;
-        out.field(b"-", u64::from(location.county))?;
-        out.field(b"-", u64::from(location.part))?;
+        out.field(b"\n  location=", location.state)?;
+        out.field(b"-", location.county)?;
+        out.field(b"-", location.part)?;
     }
     Ok(())
 }
@@ -148,9 +144,9 @@ fn exceptions(out: &mut Record, bytes: &[u8]) -> Result<(), AllocError> {
 fn exception(out: &mut Record, entry: Exception) -> Result<(), AllocError> {
     match entry {
         Exception::Channel(pair) => {
-            out.field(b"\n  exception=channel:", u64::from(pair.major))?;
-            out.field(b"-", u64::from(pair.minor))
+            out.field(b"\n  exception=channel:", pair.major)?;
+            out.field(b"-", pair.minor)
         }
-        Exception::Source(id) => out.field(b"\n  exception=source:", u64::from(id.0)),
+        Exception::Source(id) => out.field(b"\n  exception=source:", id.0),
     }
 }

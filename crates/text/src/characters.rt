@@ -22,7 +22,7 @@ struct Mode {
 fn is_control(code: u16) -> bool
     ensures value { result ≡ control code }
 {
-    code <= 0x1F || code >= 0x7F && code <= 0x9F
+    code <= 0x1F || (0x7F..=0x9F).contains(&code)
 }
 
 impl Mode {

@@ -2,7 +2,7 @@
 ghost use Rattle.std.specs.Prelude.{◌≡◌, true, Some};
 ghost use Rattle.std.specs.List.{find};
 ghost use Rattle.std.specs.Option.{option_map};
-ghost use Rattle.text.specs.Structure.{segments as the_segments, strings as the_strings, strings_of};
+ghost use Rattle.text.specs.Structure.{segments as the_segments, strings as the_strings};
 ghost use Rattle.text.specs.Reading.{all_readable, characters, cut, english, read_of, text_of};
 ghost use Rattle.text.specs.Said.{said, English};
 ghost use Rattle.text.specs.Seen.{seen_string};
@@ -14,7 +14,7 @@ use crate::refusal::TextRefusal;
 use crate::run::Run;
 use crate::segment::Segments;
 use crate::spoken::{Spoken, Strings};
-use crate::structure::is_structured;
+use crate::structure::{is_structured, strings_of};
 
 // Whether each segment can be read.
 fn all_readable(mut segments: Run<'_, Segments>) -> bool
@@ -44,16 +44,6 @@ fn text_of_string(string: Spoken<'_>) -> Text
     }
 }
 
-// The strings of a field. One of no bytes has none.
-fn strings_of(field: &[u8]) -> Run<'_, Strings>
-    ensures value { the_strings result.left result.rest.now ≡ strings_of field.now }
-{
-    match field.split_first() {
-        Some((count, strings)) => Run::new(*count, strings),
-        None => Run::new(0, field),
-    }
-}
-
 // The first English one of them.
 fn first_english(mut strings: Run<'_, Strings>) -> Option<Spoken<'_>>
     ensures value { option_map seen_string result ≡ find (λ t. english t.language) (the_strings strings.entry.left strings.entry.rest.now) }
@@ -65,10 +55,7 @@ fn first_english(mut strings: Run<'_, Strings>) -> Option<Spoken<'_>>
 fn text_of(field: &[u8]) -> Text
     ensures value { said result ≡ text_of field.now }
 {
-    match first_english(strings_of(field)) {
-        Some(string) => text_of_string(string),
-        None => Text::empty(),
-    }
+    first_english(strings_of(field)).map_or_else(Text::empty, text_of_string)
 }
 
 // The English text of a field that keeps the structure.

@@ -1,11 +1,11 @@
 // Segments: where they end, and which can be read.
-ghost use Rattle.std.specs.Prelude.{◌≡◌, take, drop};
+ghost use Rattle.std.specs.Prelude.{◌≡◌, take};
 ghost use Rattle.text.specs.Structure.{Segment as OneSegment, segment_at, segment_size, after_segment, past_segment};
 ghost use Rattle.text.specs.Reading.{readable};
 ghost use Rattle.text.specs.Seen.{seen_segment};
 
 use crate::run::Parts;
-use octets::byte_at;
+use octets::{after, byte_at};
 
 #[derive(Clone, Copy)]
 pub(crate) struct Segment<'a> {
@@ -27,13 +27,6 @@ pub(crate) fn front(bytes: &[u8], n: usize) -> &[u8]
     ensures value { result.now ≡ take n bytes.now }
 {
     bytes.get(..n).unwrap_or(bytes)
-}
-
-// What follows them.
-pub(crate) fn after(bytes: &[u8], n: usize) -> &[u8]
-    ensures value { result.now ≡ drop n bytes.now }
-{
-    bytes.get(n..).unwrap_or(&[])
 }
 
 // How many bytes the segment at the front has.

@@ -5,8 +5,8 @@ ghost use Rattle.text.specs.Reading.{english};
 ghost use Rattle.text.specs.Seen.{seen_string};
 
 use crate::run::{Parts, Run};
-use crate::segment::{Segments, after, front};
-use octets::byte_at;
+use crate::segment::{Segments, front};
+use octets::{after, byte_at};
 
 #[derive(Clone, Copy)]
 pub(crate) struct Spoken<'a> {

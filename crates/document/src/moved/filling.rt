@@ -42,12 +42,10 @@ pub fn fill(
             gathered,
         });
     }
-    // No `ok_or`: only a refusal gives the gathered document back.
-    match put_document(&work[..size], words, out) {
-        Some(written) => Ok(Filled { size: written }),
-        None => Err(Unfilled {
+    put_document(&work[..size], words, out)
+        .map(|size| Filled { size })
+        .ok_or(Unfilled {
             refusal: FillRefusal::Short,
             gathered,
-        }),
-    }
+        })
 }

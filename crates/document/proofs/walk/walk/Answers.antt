@@ -1,8 +1,9 @@
-use Rattle.std.proofs.Common.{◌≡◌, [], ◌∷◌, ◌++◌, ◌-◌, length, get_or, take, drop, ◌∙◌, sym, refl, ap, subst, arith, rules}
+use Rattle.std.proofs.Common.{◌≡◌, [], ◌∷◌, ◌++◌, ◌-◌, length, get_or, take, drop, ◌∙◌, refl, ap, sym, subst, true, false, IfSome, MatchOption, arith}
 use Rattle.std.proofs.lemmas.Bool.{ne_eqb}
-use Rattle.document.specs.Descriptors.{Walked, walked, ended}
+use Rattle.std.specs.Bool.{then_some}
+use Rattle.document.specs.Descriptors.{walked, ended}
 use Rattle.document.specs.Tables.{Tabled}
-use Rattle.document.proofs.Walks.{front, walk_on, walk_done}
+use Rattle.document.proofs.Walks.{front, walk_on, walk_ends}
 use Rattle.document.proofs.Tables.{tabled_other, tabled_front}
 use Rattle.document.proofs.walk.walk.Goals as goal
 
@@ -30,9 +31,13 @@ loop-rest-preserved-then-tag-eq-METADATA c =
     let t = tabled_front i.0 c.meet.new.self bs c.in_ok-body.body.now c.if-tag-eq-METADATA.true (s.1 ∙ ap (λ m. take m (take (length bs - 2) (drop 2 bs))) e) (c.meet.ensures.holds i.0 i.1.0) in
     (omega (arith, n.3, c.meet.ensures.count), (i.0 ++ front bs ∷ [], (t, (n.0, (n.1, n.2)))))
 
-pub returns-then-is_empty : goal.returns-then-is_empty
-returns-then-is_empty c =
+pub returns : goal.returns
+returns c =
     let i = c.loop-rest.invariant.1 in
-    let none : length c.loop-rest.rest.now ≡ 0 = search rules in
-    let e = walk_done i.0 i.1.1.0 (walked c.args.area.now) c.loop-rest.rest.now none i.1.1.1.1 in
-    record { cases = ap ended e; holds = subst (λ (x : Walked). Tabled x.whole c.loop-rest.gathering) (sym e) i.1.0 }
+    let said = c.then_some.ensures ∙ ap (λ b. then_some b c.loop-rest.gathering) c.is_empty.ensures in
+    let w = walked c.args.area.now in
+    let e = walk_ends Tabled i.0 i.1.1.0 w c.loop-rest.rest.now c.loop-rest.gathering (omega (arith, c.in_default.len_below)) i.1.1.1.0 i.1.1.1.1 i.1.0 in
+    record {
+      cases = subst (λ o. MatchOption o (ended w ≡ false) (λ _. ended w ≡ true)) (sym said) e.0;
+      holds = subst (λ o. IfSome o (λ g. Tabled w.whole g)) (sym said) e.1;
+    }

@@ -2,8 +2,7 @@ use Rattle.std.proofs.Common.{cond, leb, length, drop, Some, sym, refl, ap, ◌�
 use Rattle.lines.specs.Ends.{unreturned}
 use Rattle.lines.specs.Keys.{put_into}
 use Rattle.script.specs.Lines.{room_for}
-use Rattle.script.specs.Words.{words_ask}
-use Rattle.script.proofs.Lining.{asked_by, words_leave, either_way}
+use Rattle.script.proofs.Lining.{asked_by, whole_asks, whole_leaves, either_way}
 use Rattle.script.proofs.reading.read_line.Goals as goal
 
 pub returns-in-Some : goal.returns-in-Some
@@ -29,24 +28,18 @@ returns-in-Some-hex_value c =
           (c.in_default.ensures.after text holds ∙ either_way (leb (length text) most) room room refl);
     }
 
-pub returns-in-Some-whole_text : goal.returns-in-Some-whole_text
-returns-in-Some-whole_text c =
+pub returns : goal.returns
+returns c =
     let most = c.args.line.now.most in
     let room = c.args.room.now in
     record {
       value = λ text holds small k.
-          let said = c.in-Some-whole_text.ensures.cases text holds in
-          asked_by most text c.read_words.result _ _ _ _ (c.read_words.ensures.value ∙ ap words_ask said.1) (c.if-is_comment.ensures.value text holds (omega arith))
-          (c.in_default.ensures.value text holds small (omega arith)) (c.in_default-hex_value.ensures.value text holds small (omega arith)) (sym said.0);
+          whole_asks c.whole_text.result c.args.line.now text c.map_or.result holds c.whole_text.ensures.cases c.map_or.ensures
+          ∙ asked_by most text _ _ (leb (length text) most) _ _ refl (c.if-is_comment.ensures.value text holds (omega arith))
+          (c.in_default.ensures.value text holds small (omega arith)) (c.in_default-hex_value.ensures.value text holds small (omega arith)) refl;
       after = λ text holds.
           c.in_default-hex_value.ensures.after text holds ∙ either_way (leb (length text) most) c.hex_value.new.room c.hex_value.new.room refl
           ∙ c.in_default.ensures.after text holds ∙ either_way (leb (length text) most) room room refl
-          ∙ sym (either_way (leb (length text) most) (room_for room (unreturned text) c.read_words.result) room
-          (ap (room_for room (unreturned text)) c.read_words.ensures.value ∙ words_leave room (unreturned text) c.in-Some-whole_text.text.now));
+          ∙ sym (either_way (leb (length text) most) (room_for room (unreturned text) c.map_or.result) room
+          (whole_leaves c.whole_text.result room (unreturned text) c.map_or.result c.map_or.ensures));
     }
-
-pub returns-in-None-clause-value : goal.returns-in-None-clause-value
-returns-in-None-clause-value c =
-    λ text holds small k.
-    asked_by c.args.line.now.most text _ _ _ _ _ refl (c.if-is_comment.ensures.value text holds (omega arith))
-    (c.in_default.ensures.value text holds small (omega arith)) (c.in_default-hex_value.ensures.value text holds small (omega arith)) (sym (c.in-None.ensures.cases text holds))

@@ -18,5 +18,5 @@ loop-preserved c =
     let s = c.loop.rest.now in
     let k = c.args.count in
     let i = c.loop.counter in
-    ap (all_located (k - (i + 1))) c.after_entry-rest.ensures.value
+    ap (all_located (k - (i + 1))) c.after-rest.ensures.value
     ∙ ap (λ b. b && all_located (k - (i + 1)) (drop 3 s)) c.if-not-is_located.ensures.value ∙ sym (next k i s (omega arith)) ∙ c.loop.invariant

@@ -1,0 +1,6 @@
+use Rattle.std.proofs.Common.{◌∙◌}
+use Rattle.lines.proofs.Feeds.{feed_found}
+use Rattle.lines.proofs.ends.has_feed.Goals as goal
+
+pub returns : goal.returns
+returns c = record { value = c.is_some.ensures ∙ feed_found c.args.bytes.now c.memchr.result c.memchr.ensures }

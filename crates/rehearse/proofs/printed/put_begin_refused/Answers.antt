@@ -1,4 +1,0 @@
-use Rattle.rehearse.proofs.printed.put_begin_refused.Goals as goal
-
-pub returns : goal.returns
-returns c = rw c.from.ensures at c.put_numbered.ensures
