@@ -1,5 +1,5 @@
 // What a receiver is given.
-#[derive(Clone, Copy)]
+#[derive(Clone, Copy, PartialEq, Eq, Debug)]
 pub enum Call<'a> {
     // the bytes of a section
     Section(&'a [u8]),

@@ -2,6 +2,7 @@
 ghost use Rattle.std.specs.Prelude.{◌≡◌, Some};
 ghost use Rattle.calls.specs.Numbers.{reading_number, choice_number, refusal_number};
 ghost use Rattle.calls.specs.Words.{reading_words, choice_words, refusal_words};
+ghost use Rattle.calls.specs.declared.refusal.CallRefusal.TheVariants.{Section, Reading, Choice};
 
 use section::SectionRefusal;
 use std::fmt;
@@ -80,6 +81,30 @@ pub enum CallRefusal {
     Section(SectionRefusal),
     Reading(ReadingRefusal),
     Choice(ChoiceRefusal),
+}
+
+impl From<SectionRefusal> for CallRefusal {
+    ghost from_gives = { λ e r. r ≡ Section e };
+
+    fn from(refusal: SectionRefusal) -> CallRefusal {
+        CallRefusal::Section(refusal)
+    }
+}
+
+impl From<ReadingRefusal> for CallRefusal {
+    ghost from_gives = { λ e r. r ≡ Reading e };
+
+    fn from(refusal: ReadingRefusal) -> CallRefusal {
+        CallRefusal::Reading(refusal)
+    }
+}
+
+impl From<ChoiceRefusal> for CallRefusal {
+    ghost from_gives = { λ e r. r ≡ Choice e };
+
+    fn from(refusal: ChoiceRefusal) -> CallRefusal {
+        CallRefusal::Choice(refusal)
+    }
 }
 
 impl CallRefusal {

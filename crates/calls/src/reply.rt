@@ -1,10 +1,10 @@
 // What a call is given back.
 ghost use Rattle.std.specs.Prelude.{◌≡◌};
 ghost use Rattle.calls.specs.Numbers.{reply_number, reply_entry};
-ghost use Rattle.calls.specs.Replying.{of_section, of_reading, of_choice};
+ghost use Rattle.calls.specs.Replying.{of_section, OfGrant};
 
 use super::answer::Answer;
-use super::refusal::{CallRefusal, ChoiceRefusal, ReadingRefusal};
+use super::refusal::CallRefusal;
 use section::SectionRefusal;
 
 // No `Result`: it has three cases, an answer, a grant and a refusal.
@@ -23,31 +23,19 @@ impl From<Result<Answer, SectionRefusal>> for Reply {
     fn from(given: Result<Answer, SectionRefusal>) -> Reply {
         match given {
             Ok(answer) => Reply::Answered(answer),
-            Err(e) => Reply::Refused(CallRefusal::Section(e)),
+            Err(e) => Reply::Refused(CallRefusal::from(e)),
         }
     }
 }
 
-// Tried one impl for this and the next, over each `E: Into<CallRefusal>`: it gives a relation, `converts`, in place of
-// the equation, and the proof of the receiver's `make_call` as it stands did not close.
-impl From<Result<(), ReadingRefusal>> for Reply {
-    ghost from_gives = { λ given reply. reply ≡ of_reading given };
+// To a reading or a choice: granted or refused, and no more.
+impl<E: Into<CallRefusal>> From<Result<(), E>> for Reply {
+    ghost from_gives = { OfGrant E.converts };
 
-    fn from(given: Result<(), ReadingRefusal>) -> Reply {
+    fn from(given: Result<(), E>) -> Reply {
         match given {
             Ok(()) => Reply::Granted,
-            Err(e) => Reply::Refused(CallRefusal::Reading(e)),
-        }
-    }
-}
-
-impl From<Result<(), ChoiceRefusal>> for Reply {
-    ghost from_gives = { λ given reply. reply ≡ of_choice given };
-
-    fn from(given: Result<(), ChoiceRefusal>) -> Reply {
-        match given {
-            Ok(()) => Reply::Granted,
-            Err(e) => Reply::Refused(CallRefusal::Choice(e)),
+            Err(e) => Reply::Refused(e.into()),
         }
     }
 }

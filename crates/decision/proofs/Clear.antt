@@ -15,7 +15,8 @@ use Rattle.section.specs.Values.{fields_of}
 use Rattle.decision.specs.declared.name.Name.TheVariants.{Source}
 use Rattle.decision.specs.Alerts.{Keeps}
 use Rattle.decision.specs.Lookups.{bears, first_from, first_of, details_name, details_of, if_apart, or_else, audio_of, sound_of}
-use Rattle.decision.specs.Pictures.{applies_to, between, shown_by, sound_from, service_for, plain, alerted, pictured}
+use Rattle.sets.specs.Sounds.{sound_from}
+use Rattle.decision.specs.Pictures.{applies_to, between, shown_by, service_for, plain, alerted, pictured}
 use Rattle.sets.specs.declared.refusal.SetRefusal.{SetRefusal}
 use Rattle.decision.specs.Drives.{Pictures, unheard, or_next, obstacle, Drives}
 use Rattle.decision.proofs.Said.{says}

@@ -6,7 +6,8 @@ use Rattle.text.specs.Said.{said}
 use Rattle.sets.specs.declared.sound.Sound.TheVariants.{Own}
 use Rattle.sets.specs.Meaning.{Meaning}
 use Rattle.decision.specs.declared.alert.Alert.{Alert}
-use Rattle.decision.specs.Pictures.{applies_to, between, shown_by, sound_from, service_for, plain, alerted, pictured}
+use Rattle.sets.specs.Sounds.{sound_from}
+use Rattle.decision.specs.Pictures.{applies_to, between, shown_by, service_for, plain, alerted, pictured}
 use Rattle.decision.specs.Sentences.{Takes, Sentences}
 
 never : {A : Type 0} (a : Alert) → ◌≡◌ {A = Option Alert} None (Some a) → A

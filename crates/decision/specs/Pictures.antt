@@ -2,9 +2,9 @@
 use Rattle.std.specs.Prelude.{ℕ, Bool, false, cond, not, ◌&&◌, List, [], Some, None, Option, nat_le, slice_index_or}
 use Rattle.station.specs.declared.service.Service.{Service}
 use Rattle.text.specs.Said.{said}
-use Rattle.sets.specs.declared.sound.Sound.{Sound}
-use Rattle.sets.specs.declared.sound.Sound.TheVariants.{Own, Borrowed}
+use Rattle.sets.specs.declared.sound.Sound.TheVariants.{Own}
 use Rattle.sets.specs.Meaning.{Meaning, service_at}
+use Rattle.sets.specs.Sounds.{sound_from}
 use Rattle.decision.specs.declared.alert.Alert.{Alert}
 
 abbrev pub is_paid : Option Service → Bool
@@ -30,10 +30,6 @@ applies_to a ss home = applies (slice_index_or a.excepted.marks home false) a.pr
 abbrev pub shown_by : ℕ → Option ℕ → ℕ → ℕ
 shown_by priority None home = home
 shown_by priority (Some k) home = cond (between 12 15 priority) k home
-
-abbrev pub sound_from : Option ℕ → Sound
-sound_from None = Own
-sound_from (Some k) = Borrowed k
 
 abbrev pub service_for : Alert → ℕ → Option ℕ → ℕ
 service_for a home None = shown_by a.priority.0 a.details home

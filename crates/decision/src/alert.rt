@@ -2,7 +2,7 @@
 use section::{EventId, Priority};
 use text::Text;
 
-// One mark for each possible service: excepted from the alert, or not.
+// One mark for each possible service: excepted from the alert, or not. In place, since no heap is asked for.
 #[derive(Clone, Copy)]
 pub struct Excepted {
     pub marks: [bool; 256],

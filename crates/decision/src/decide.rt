@@ -4,7 +4,7 @@ ghost use Rattle.decision.specs.Drives.{Pictures};
 ghost use Rattle.decision.specs.Pictures.{alerted as alertedBy, pictured};
 
 use super::alert::Alert;
-use super::judge::{applies_to, service_for, sound_from};
+use super::judge::{applies_to, service_for};
 use super::picture::Picture;
 use sets::{Set, Sound};
 
@@ -25,7 +25,7 @@ fn alerted<'a>(alert: &'a Alert, home: usize) -> Picture<'a>
 {
     Picture {
         service: service_for(alert, home),
-        sound: sound_from(alert.sound),
+        sound: Sound::from(alert.sound),
         caption: alert.text.as_bytes(),
     }
 }

@@ -1,7 +1,7 @@
 // Whether an alert applies, and what it shows and sounds.
 ghost use Rattle.std.specs.Prelude.{◌≡◌, ℕ, ◌≤◌, false, slice_index_or};
 ghost use Rattle.sets.specs.Meaning.{service_at};
-ghost use Rattle.decision.specs.Pictures.{applies, applies_to, shown_by, sound_from, service_for};
+ghost use Rattle.decision.specs.Pictures.{applies, applies_to, shown_by, service_for};
 
 use super::alert::{Alert, Excepted};
 use sets::{Set, Sound};
@@ -44,10 +44,4 @@ pub(crate) fn service_for(alert: &Alert, home: usize) -> usize
         (None, Some(k)) if (12..=15).contains(&alert.priority.0) => k,
         _ => home,
     }
-}
-
-pub(crate) fn sound_from(sound: Option<usize>) -> Sound
-    ensures { result ≡ sound_from sound }
-{
-    sound.map_or(Sound::Own, Sound::Borrowed)
 }

@@ -4,6 +4,7 @@ ghost use Rattle.decision.specs.Lookups.{bears as bearsName, holds};
 
 use station::{ChannelPair, Service, SourceId};
 
+// An exception entry states such a name too, but for one path alone: as one type, either would be misnamed.
 #[derive(Clone, Copy, PartialEq, Eq, Debug)]
 pub enum Name {
     Channel(ChannelPair),

@@ -10,29 +10,33 @@ use Rattle.std.proofs.lemmas.Bool.Decides.{nat_tests}
 use Rattle.document.specs.Descriptors.{Descriptor}
 use Rattle.document.specs.Fragments.{Fragment, any_breaks, fragments_of, tally, repeats, lookup, missing, chained}
 use Rattle.document.specs.Document.{fault, fault_of, gap, bound}
-use Rattle.document.specs.Tables.{Placed, Tabled, placed_bytes, pieces}
+use Rattle.document.specs.Tables.{empty, Placed, Tabled, placed_bytes, pieces}
+use Rattle.document.specs.declared.slots.Slot.{Slot}
 use Rattle.document.specs.declared.slots.Gathering.{Gathering}
 use Rattle.document.specs.declared.refusal.DocumentRefusal.TheVariants.{Gap}
 use Rattle.document.proofs.Bindings.{missing_at}
 use Rattle.document.proofs.Escapes.{flat_map_on}
 
+abbrev filled : Slot → Bool
+filled s = is_some s.fragment
+
 lookup_none : (k : ℕ) (fs : List Fragment) → tally k fs ≡ 0 → lookup k fs ≡ []
 lookup_none k [] h = refl
 lookup_none k (f ∷ fs) h = let i = lookup_none k fs in grind (arith, nat_tests)
 
-placed_piece : (fs : List Fragment) (k : ℕ) (o : Option (Bor (List ℕ))) → Placed fs k o → placed_bytes o ≡ lookup k fs
+placed_piece : (fs : List Fragment) (k : ℕ) (o : Option (Bor (List ℕ))) → Placed fs k (record { fragment = o }) → placed_bytes (record { fragment = o }) ≡ lookup k fs
 placed_piece fs k None h = sym (lookup_none k fs h)
 placed_piece fs k (Some b) h = h.1
 
-placed_short : (fs : List Fragment) (k : ℕ) (o : Option (Bor (List ℕ))) → Placed fs k o → length (placed_bytes o) ≤ 255
+placed_short : (fs : List Fragment) (k : ℕ) (o : Option (Bor (List ℕ))) → Placed fs k (record { fragment = o }) → length (placed_bytes (record { fragment = o })) ≤ 255
 placed_short fs k None h = omega arith
 placed_short fs k (Some b) h = omega (arith, h.2)
 
-placed_some : (fs : List Fragment) (k : ℕ) (o : Option (Bor (List ℕ))) → Placed fs k o → is_some o ≡ not (eqb (tally k fs) 0)
+placed_some : (fs : List Fragment) (k : ℕ) (o : Option (Bor (List ℕ))) → Placed fs k (record { fragment = o }) → is_some o ≡ not (eqb (tally k fs) 0)
 placed_some fs k None h = grind (arith, nat_tests)
 placed_some fs k (Some b) h = ap not (sym (ne_eqb (tally k fs) 0 h.0))
 
-placed_gone : (fs : List Fragment) (k : ℕ) (o : Option (Bor (List ℕ))) → Placed fs k o → o ≡ None → tally k fs ≡ 0
+placed_gone : (fs : List Fragment) (k : ℕ) (o : Option (Bor (List ℕ))) → Placed fs k (record { fragment = o }) → o ≡ None → tally k fs ≡ 0
 placed_gone fs k None h e = h
 placed_gone fs k (Some b) h e = cc
 
@@ -50,40 +54,40 @@ module _ (ds : List Descriptor) (g : Gathering) (h : Tabled ds g) where
   abbrev fs : List Fragment
   fs = fragments_of ds
 
-  abbrev rest : List (Option (Bor (List ℕ)))
-  rest = drop 1 g.fragments
+  abbrev rest : List Slot
+  rest = drop 1 g.slots
 
-  at_rest : (n : ℕ) → get_or rest n None ≡ get_or g.fragments (n + 1) None
-  at_rest n = let e : 1 + n ≡ n + 1 = omega arith in get_or-drop 1 g.fragments n None ∙ ap (λ k. get_or g.fragments k None) e
+  at_rest : (n : ℕ) → get_or rest n empty ≡ get_or g.slots (n + 1) empty
+  at_rest n = let e : 1 + n ≡ n + 1 = omega arith in get_or-drop 1 g.slots n empty ∙ ap (λ k. get_or g.slots k empty) e
 
   inside : (n : ℕ) → n + 1 < 256 → n < length rest
-  inside n lt = omega (arith, length-drop 1 g.fragments, h.table)
+  inside n lt = omega (arith, length-drop 1 g.slots, h.table)
 
   pieces_are : (n : ℕ) → n < 256 → pieces (take n rest) ≡ chained (λ k. lookup k fs) n
   pieces_are zero lt = refl
   pieces_are (suc n) lt =
       let one = add-one n in
-      ap (λ m. pieces (take m rest)) (sym one) ∙ (flat_map_on placed_bytes rest n None (inside n (omega arith))
-      ∙ (ap (λ r. r ++ placed_bytes (get_or rest n None)) (pieces_are n (omega arith))
-      ∙ ap (λ r. chained (λ k. lookup k fs) n ++ r) (ap placed_bytes (at_rest n) ∙ (placed_piece fs (n + 1) (get_or g.fragments (n + 1) None) (h.places (n + 1)) ∙ ap (λ m. lookup m fs) one))))
+      ap (λ m. pieces (take m rest)) (sym one) ∙ (flat_map_on placed_bytes rest n empty (inside n (omega arith))
+      ∙ (ap (λ r. r ++ placed_bytes (get_or rest n empty)) (pieces_are n (omega arith))
+      ∙ ap (λ r. chained (λ k. lookup k fs) n ++ r) (ap placed_bytes (at_rest n) ∙ (placed_piece fs (n + 1) (get_or g.slots (n + 1) empty).fragment (h.places (n + 1)) ∙ ap (λ m. lookup m fs) one))))
 
   pieces_short : (n : ℕ) → n < 256 → length (pieces (take n rest)) ≤ 255 * n
   pieces_short zero lt = omega arith
   pieces_short (suc n) lt =
       let one = add-one n in
-      let more = ap length (ap (λ m. pieces (take m rest)) (sym one) ∙ flat_map_on placed_bytes rest n None (inside n (omega arith))) ∙ length-append (pieces (take n rest)) (placed_bytes (get_or rest n None)) in
-      let short = placed_short fs (n + 1) (get_or g.fragments (n + 1) None) (h.places (n + 1)) in
-      let here = ap (λ o. length (placed_bytes o)) (at_rest n) in
+      let more = ap length (ap (λ m. pieces (take m rest)) (sym one) ∙ flat_map_on placed_bytes rest n empty (inside n (omega arith))) ∙ length-append (pieces (take n rest)) (placed_bytes (get_or rest n empty)) in
+      let short = placed_short fs (n + 1) (get_or g.slots (n + 1) empty).fragment (h.places (n + 1)) in
+      let here = ap (λ s. length (placed_bytes s)) (at_rest n) in
       let before = pieces_short n (omega arith) in
       omega arith
 
-  all_there : (n : ℕ) → n < 256 → list_all is_some (take n rest) ≡ not (missing (λ k. tally k fs) n)
+  all_there : (n : ℕ) → n < 256 → list_all filled (take n rest) ≡ not (missing (λ k. tally k fs) n)
   all_there zero lt = refl
   all_there (suc n) lt =
       let one = add-one n in
-      let some : is_some (get_or rest n None) ≡ not (eqb (tally (suc n) fs) 0) = ap is_some (at_rest n) ∙ (placed_some fs (n + 1) (get_or g.fragments (n + 1) None) (h.places (n + 1)) ∙ ap (λ m. not (eqb (tally m fs) 0)) one) in
-      ap (λ m. list_all is_some (take m rest)) (sym one) ∙ (list_all_more is_some rest n None (inside n (omega arith))
-      ∙ (ap (λ b. b && is_some (get_or rest n None)) (all_there n (omega arith))
+      let some : filled (get_or rest n empty) ≡ not (eqb (tally (suc n) fs) 0) = ap filled (at_rest n) ∙ (placed_some fs (n + 1) (get_or g.slots (n + 1) empty).fragment (h.places (n + 1)) ∙ ap (λ m. not (eqb (tally m fs) 0)) one) in
+      ap (λ m. list_all filled (take m rest)) (sym one) ∙ (list_all_more filled rest n empty (inside n (omega arith))
+      ∙ (ap (λ b. b && filled (get_or rest n empty)) (all_there n (omega arith))
       ∙ (ap (λ b. not (missing (λ k. tally k fs) n) && b) some ∙ both (eqb (tally (suc n) fs) 0) (missing (λ k. tally k fs) n))))
 
   module _ (broken : g.broken ≡ false) (some : g.count ≡ 0 → ⊥) (twice : g.twice ≡ false) where
@@ -92,10 +96,10 @@ module _ (ds : List Descriptor) (g : Gathering) (h : Tabled ds g) where
         ∙ ap (λ n. cond (missing (λ k. tally k fs) n) (Some Gap) None) (sym h.count)
 
     -- none of the numbers is missing
-    pub all_bound : (ps : List (Option (Bor (List ℕ)))) → ps ≡ take g.count rest → g.count < 256 → list_all is_some ps ≡ true
+    pub all_bound : (ps : List Slot) → ps ≡ take g.count rest → g.count < 256 → list_all filled ps ≡ true
         → (fault_of ds ≡ None) × (pieces ps ≡ bound fs) × (length (pieces ps) ≤ 65535)
     all_bound ps e lt all =
-        let b : not (missing (λ k. tally k fs) g.count) ≡ true = sym (all_there g.count lt) ∙ (sym (ap (list_all is_some) e) ∙ all) in
+        let b : not (missing (λ k. tally k fs) g.count) ≡ true = sym (all_there g.count lt) ∙ (sym (ap (list_all filled) e) ∙ all) in
         let m : missing (λ k. tally k fs) g.count ≡ false = grind (arith, b) in
         let short = pieces_short g.count lt in
         let l = ap (λ x. length (pieces x)) e in (
@@ -105,15 +109,15 @@ module _ (ds : List Descriptor) (g : Gathering) (h : Tabled ds g) where
         )
 
     -- a number of the table is missing
-    pub one_missing : (ps : List (Option (Bor (List ℕ)))) → ps ≡ take g.count rest → g.count < 256 → list_all is_some ps ≡ false → fault_of ds ≡ Some Gap
+    pub one_missing : (ps : List Slot) → ps ≡ take g.count rest → g.count < 256 → list_all filled ps ≡ false → fault_of ds ≡ Some Gap
     one_missing ps e lt all =
-        let b : not (missing (λ k. tally k fs) g.count) ≡ false = sym (all_there g.count lt) ∙ (sym (ap (list_all is_some) e) ∙ all) in
+        let b : not (missing (λ k. tally k fs) g.count) ≡ false = sym (all_there g.count lt) ∙ (sym (ap (list_all filled) e) ∙ all) in
         let m : missing (λ k. tally k fs) g.count ≡ true = grind (arith, b) in
         left ∙ ap (λ b. cond b (Some Gap) None) m
 
     -- more fragments than the table has numbers for: 256 is missing
     pub past_table : 256 ≤ g.count → fault_of ds ≡ Some Gap
     past_table ge =
-        let none : get_or g.fragments 256 None ≡ None = get_or_past g.fragments 256 None (omega (arith, h.table)) in
-        let zero-tally : tally 256 fs ≡ 0 = placed_gone fs 256 (get_or g.fragments 256 None) (h.places 256) none in
+        let none : get_or g.slots 256 empty ≡ empty = get_or_past g.slots 256 empty (omega (arith, h.table)) in
+        let zero-tally : tally 256 fs ≡ 0 = placed_gone fs 256 (get_or g.slots 256 empty).fragment (h.places 256) (ap (λ (s : Slot). s.fragment) none) in
         left ∙ ap (λ b. cond b (Some Gap) None) (missing_at (λ k. tally k fs) 255 g.count (omega arith) zero-tally)

@@ -1,11 +1,17 @@
 -- A document has just one first placeholder, or none. Assumes nothing.
-use Rattle.std.specs.Option.{MatchOption}
-use Rattle.std.proofs.Common.{◌≡◌, ℕ, zero, suc, ◌+◌, ◌<◌, ◌≤◌, IfSome, ◌⊎◌, List, length, take, drop, Some, None, Option, refl, ap, subst, inl, inr, arith}
+use Rattle.std.specs.Bool.{IsTrue, Decides}
+use Rattle.std.specs.Fn.{Called}
+use Rattle.std.specs.Iterator.Runs.{Run, IsWindowsRun, CallKeepsClosure, AllItemsGive, IsFirstToGive}
+use Rattle.std.specs.List.{IsSubsliceAt}
+use Rattle.std.specs.Option.{MatchOption, IfSome, IsSomeAnd, option_map}
+use Rattle.std.proofs.lemmas.Option.{none-some}
+use Rattle.std.proofs.Common.{◌≡◌, ℕ, zero, suc, ◌+◌, ◌<◌, ◌≤◌, ◌⊎◌, Bool, true, false, List, Bor, length, take, drop, Some, None, Option, refl, ap, subst, sym, ◌∙◌, inl, inr, arith}
 use Rattle.std.proofs.lemmas.Slice.Eq.{bytes_eq-Decides}
 use Rattle.std.proofs.lemmas.Bool.{cases_Bool, cases_lt, cases_order, both_ways}
 use Rattle.std.specs.Str.{bytes_eq}
 use Rattle.document.specs.Placeholder.{placeholder, Stands, First}
 use Rattle.document.proofs.Escapes.{stands_within}
+use denote.Param.Members.{Mut}
 
 pub first_one : (doc : List ℕ) (p q : Option ℕ) → First doc p → First doc q → p ≡ q
 first_one doc None None h k = refl
@@ -43,11 +49,32 @@ pub first_of : (doc : List ℕ) → (p : Option ℕ) × First doc p
 unfolding NoneBelow
 first_of doc = elim (seek doc (length doc)) [ inl none ↦ (None, none) | inr found ↦ (Some found.0, found.1) ]
 
--- what holds of the place found, and of those before it, makes it the first
-pub first_found : (doc : List ℕ) (a b : ℕ) (r : Option ℕ) → a ≡ 0 → b ≡ length doc
-    → MatchOption r ((k : ℕ) → a ≤ k → k < b → Stands doc k → ⊥) (λ i. (a ≤ i) × (i < b) × Stands doc i × ((k : ℕ) → a ≤ k → k < i → Stands doc k → ⊥)) → First doc r
-first_found doc a b None x y h = λ k lt. h k (omega arith) (omega arith)
-first_found doc a b (Some i) x y h = (h.2, λ k lt. h.3 k (omega arith) lt)
+there : {X : Type 0} {y : X} (P : X → Type 0) (o : Option X) → option_map (λ x. x) o ≡ Some y → IfSome o P → IsSomeAnd o P
+there P (Some x) e h = h
+there P None e h = absurd (none-some _ e)
+
+-- the first window that equals the placeholder is at its first place
+module _ {S F : Type 0} {steps : S → Option (Bor (List ℕ)) → S → Type 0} (p : Run steps) (g : Mut F (Bor (List ℕ) × Unit {0}) Bool) (f : F) (doc : List ℕ)
+    (tells : (x : Bor (List ℕ)) (b : Bool) → Called g f (x, tt) b f → Decides b (x.now ≡ placeholder)) where
+  -- what a run of windows says of the one at the place k
+  abbrev Window : ℕ → Bor (List ℕ) → Type 0
+  Window k x = (length x.now ≡ 23) × (k + 23 ≤ length doc) × IsSubsliceAt 23 doc k x.now
+
+  hit : (k : ℕ) (o : Option (Bor (List ℕ))) → IsSomeAnd o (λ x. Called g f (x, tt) true f) → IfSome o (Window k) → Stands doc k
+  hit k (Some x) h w = sym w.2.0 ∙ (tells x true h).0 refl
+  hit k None h w = absurd h
+
+  miss : (k : ℕ) (o : Option (Bor (List ℕ))) → IsSomeAnd o (λ x. Called g f (x, tt) false f) → IfSome o (Window k) → Stands doc k → ⊥
+  miss k (Some x) h w st = let e = (tells x false h).1 (w.2.0 ∙ st) in cc
+  miss k None h w st = absurd h
+
+  pub first_window : IsWindowsRun p 23 doc → CallKeepsClosure g f → (o : Option ℕ)
+      → MatchOption o (IsTrue p.whole × AllItemsGive p g f false) (λ i. (p.len ≡ i + 1) × IsFirstToGive p g f true false i) → First doc o
+  first_window windows keeps (Some i) h =
+      (hit i (p.at i) (h.1 keeps).0 (windows.2 i), λ k lt. miss k (p.at k) ((h.1 keeps).1 k lt) (windows.2 k))
+  first_window windows keeps None h = λ k lt st.
+      let within : k < p.len = omega (arith, windows.1 h.0, stands_within doc k st) in
+      miss k (p.at k) (there _ (p.at k) (p.reads k (record { ref_ptr = (0, 0); now = doc }) within) (h.1 keeps k)) (windows.2 k) st
 
 pub found_within : (doc : List ℕ) (r : Option ℕ) → First doc r → IfSome r (λ i. i + 23 ≤ length doc)
 found_within doc None h = tt

@@ -2,30 +2,31 @@
 use Rattle.std.proofs.Common.{◌≡◌, ℕ, ◌+◌, ◌-◌, ◌<◌, true, false, cond, not, ◌&&◌, ◌||◌, ltb, List, [], ◌∷◌, ◌++◌, length, get_or, take, drop, set, replicate, Some, None, Option, sym, refl, ap, ◌∙◌, subst, inl, inr, arith, length-drop}
 use Rattle.std.specs.Borrow.{Bor}
 use Rattle.std.specs.Option.{is_some}
-use Rattle.std.proofs.lemmas.List.{append-nil, length_push, length-set, get_or-set_same, get_or-set_other, get_or-replicate, get_or_past, take_rest}
+use Rattle.std.proofs.lemmas.List.{append-nil, length_push, length-set, get_or-set_same, get_or-set_other, set-get_or, get_or-replicate, get_or_past, take_rest}
 use Rattle.std.proofs.lemmas.Bool.{cases_eq, cases_lt}
 use Rattle.std.proofs.lemmas.Bool.Decides.{nat_tests}
 use mathlib.Core.Bool.{or-false, or-true}
 use Rattle.document.specs.Descriptors.{Descriptor}
 use Rattle.document.specs.Fragments.{Fragment, metadata, breaks, any_breaks, fragment_of, fragments_of, tally, repeats}
-use Rattle.document.specs.Tables.{Placed, Tabled}
+use Rattle.document.specs.Tables.{empty, Placed, Tabled}
+use Rattle.document.specs.declared.slots.Slot.{Slot}
 use Rattle.document.specs.declared.slots.Gathering.{Gathering}
 use Rattle.document.proofs.Walks.{front}
 use Rattle.document.proofs.Bags.{breaks_more, fragments_more, tally_more, repeats_more, lookup_held, lookup_other, lookup_new}
 
-blank : (k : ℕ) → get_or {A = Option (Bor (List ℕ))} (replicate 256 None) k None ≡ None
+blank : (k : ℕ) → get_or (replicate 256 empty) k empty ≡ empty
 blank k =
     elim (cases_lt k 256) [
-      | inl lt ↦ get_or-replicate 256 k None None lt
-      | inr past ↦ get_or_past (replicate 256 None) k None past
+      | inl lt ↦ get_or-replicate 256 k empty empty lt
+      | inr past ↦ get_or_past (replicate 256 empty) k empty past
     ]
 
-pub tabled_none : Tabled [] (record { fragments = replicate 256 None; count = 0; broken = false; twice = false })
+pub tabled_none : Tabled [] (record { slots = replicate 256 empty; count = 0; broken = false; twice = false })
 tabled_none = record { broken = refl; count = refl; twice = refl; table = refl; places = λ k. subst (Placed [] k) (sym (blank k)) refl }
 
 -- the same places, after a descriptor without a fragment
-kept : (fs gs : List Fragment) (k : ℕ) (o : Option (Bor (List ℕ))) → gs ≡ fs → Placed fs k o → Placed gs k o
-kept fs gs k o e h = subst (λ l. Placed l k o) (sym e) h
+kept : (fs gs : List Fragment) (k : ℕ) (s : Slot) → gs ≡ fs → Placed fs k s → Placed gs k s
+kept fs gs k s e h = subst (λ l. Placed l k s) (sym e) h
 
 pub tabled_other : (ds : List Descriptor) (d : Descriptor) (g : Gathering) → metadata d ≡ false → Tabled ds g → Tabled (ds ++ d ∷ []) g
 tabled_other ds d g off h =
@@ -36,32 +37,32 @@ tabled_other ds d g off h =
       count = h.count ∙ sym (ap length fs);
       twice = h.twice ∙ sym (ap repeats fs);
       table = h.table;
-      places = λ k. kept (fragments_of ds) (fragments_of (ds ++ d ∷ [])) k (get_or g.fragments k None) fs (h.places k);
+      places = λ k. kept (fragments_of ds) (fragments_of (ds ++ d ∷ [])) k (get_or g.slots k empty) fs (h.places k);
     }
 
 -- a fragment more: what stands at its place, and at the others
-placed_new : (fs : List Fragment) (f : Fragment) (b : Bor (List ℕ)) → b.now ≡ f.bytes → length b.now < 256 → tally f.number fs ≡ 0 → Placed (fs ++ f ∷ []) f.number (Some b)
+placed_new : (fs : List Fragment) (f : Fragment) (b : Bor (List ℕ)) → b.now ≡ f.bytes → length b.now < 256 → tally f.number fs ≡ 0 → Placed (fs ++ f ∷ []) f.number (record { fragment = Some b })
 placed_new fs f b e short free =
     let t = tally_more f.number fs f in
     (grind (arith, nat_tests), e ∙ sym (lookup_new fs f free), short)
 
-placed_held : (fs : List Fragment) (f : Fragment) (k : ℕ) (o : Option (Bor (List ℕ))) → (tally k fs ≡ 0 → ⊥) → Placed fs k o → Placed (fs ++ f ∷ []) k o
+placed_held : (fs : List Fragment) (f : Fragment) (k : ℕ) (o : Option (Bor (List ℕ))) → (tally k fs ≡ 0 → ⊥) → Placed fs k (record { fragment = o }) → Placed (fs ++ f ∷ []) k (record { fragment = o })
 placed_held fs f k None met h = absurd (met h)
 placed_held fs f k (Some b) met h =
     let t = tally_more k fs f in
     (grind (arith, nat_tests), h.1 ∙ sym (lookup_held k fs f met), h.2)
 
-placed_other : (fs : List Fragment) (f : Fragment) (k : ℕ) (o : Option (Bor (List ℕ))) → (f.number ≡ k → ⊥) → Placed fs k o → Placed (fs ++ f ∷ []) k o
+placed_other : (fs : List Fragment) (f : Fragment) (k : ℕ) (o : Option (Bor (List ℕ))) → (f.number ≡ k → ⊥) → Placed fs k (record { fragment = o }) → Placed (fs ++ f ∷ []) k (record { fragment = o })
 placed_other fs f k None apart h = let t = tally_more k fs f in grind (arith, nat_tests)
 placed_other fs f k (Some b) apart h =
     let t = tally_more k fs f in
     (grind (arith, nat_tests), h.1 ∙ sym (lookup_other k fs f apart), h.2)
 
-placed_free : (fs : List Fragment) (k : ℕ) (o : Option (Bor (List ℕ))) → is_some o ≡ false → Placed fs k o → tally k fs ≡ 0
+placed_free : (fs : List Fragment) (k : ℕ) (o : Option (Bor (List ℕ))) → is_some o ≡ false → Placed fs k (record { fragment = o }) → tally k fs ≡ 0
 placed_free fs k None e h = h
 placed_free fs k (Some b) e h = cc
 
-placed_full : (fs : List Fragment) (k : ℕ) (o : Option (Bor (List ℕ))) → is_some o ≡ true → Placed fs k o → tally k fs ≡ 0 → ⊥
+placed_full : (fs : List Fragment) (k : ℕ) (o : Option (Bor (List ℕ))) → is_some o ≡ true → Placed fs k (record { fragment = o }) → tally k fs ≡ 0 → ⊥
 placed_full fs k None e h z = let w : ◌≡◌ {A = ℕ} 0 1 = cc in omega arith
 placed_full fs k (Some b) e h z = h.0 z
 
@@ -85,7 +86,7 @@ module _ (ds : List Descriptor) (body : List ℕ) (g : Gathering) (h : Tabled ds
         count = h.count ∙ sym (ap length e);
         twice = h.twice ∙ sym (ap repeats e);
         table = h.table;
-        places = λ k. kept fs (fragments_of (ds ++ d ∷ [])) k (get_or g.fragments k None) e (h.places k);
+        places = λ k. kept fs (fragments_of (ds ++ d ∷ [])) k (get_or g.slots k empty) e (h.places k);
       }
 
   module _ (b : breaks body ≡ false) where
@@ -98,45 +99,47 @@ module _ (ds : List Descriptor) (body : List ℕ) (g : Gathering) (h : Tabled ds
     counted : g.count + 1 ≡ length (fragments_of (ds ++ d ∷ []))
     counted = ap (λ n. n + 1) h.count ∙ sym (ap length pushed ∙ length_push fs f)
 
-    -- the number is held already
-    pub met_again : is_some (get_or g.fragments (get_or body 0 0) None) ≡ true → Tabled (ds ++ d ∷ []) (record g { count = g.count + 1; twice = true })
-    met_again full =
-        let held : (tally f.number fs ≡ 0 → ⊥) = placed_full fs f.number (get_or g.fragments f.number None) full (h.places f.number) in
+    -- the number is held already: its slot stays as it was
+    pub met_again : (number : ℕ) → is_some (get_or g.slots (get_or body 0 0) empty).fragment ≡ true
+        → Tabled (ds ++ d ∷ []) (record g { slots = set g.slots number (get_or g.slots number empty); count = g.count + 1; twice = true })
+    met_again number full =
+        let held : (tally f.number fs ≡ 0 → ⊥) = placed_full fs f.number (get_or g.slots f.number empty).fragment full (h.places f.number) in
         let r : repeats (fs ++ f ∷ []) ≡ true = repeats_more fs f ∙ grind (arith, nat_tests) in
-        let each : (k : ℕ) → Placed (fs ++ f ∷ []) k (get_or g.fragments k None) = λ k. elim (cases_eq f.number k) [
-          | inl q ↦ placed_held fs f k (get_or g.fragments k None) (subst (λ n. tally n fs ≡ 0 → ⊥) q held) (h.places k)
-          | inr apart ↦ placed_other fs f k (get_or g.fragments k None) apart (h.places k)
+        let each : (k : ℕ) → Placed (fs ++ f ∷ []) k (get_or g.slots k empty) = λ k. elim (cases_eq f.number k) [
+          | inl q ↦ placed_held fs f k (get_or g.slots k empty).fragment (subst (λ n. tally n fs ≡ 0 → ⊥) q held) (h.places k)
+          | inr apart ↦ placed_other fs f k (get_or g.slots k empty).fragment apart (h.places k)
         ] in
-        record {
+        let made : Tabled (ds ++ d ∷ []) (record g { count = g.count + 1; twice = true }) = record {
           broken = h.broken ∙ sym unbroken;
           count = counted;
           twice = sym (ap repeats pushed ∙ r);
           table = h.table;
-          places = λ k. kept (fs ++ f ∷ []) (fragments_of (ds ++ d ∷ [])) k (get_or g.fragments k None) pushed (each k);
-        }
+          places = λ k. kept (fs ++ f ∷ []) (fragments_of (ds ++ d ∷ [])) k (get_or g.slots k empty) pushed (each k);
+        } in
+        subst (λ t. Tabled (ds ++ d ∷ []) (record g { slots = t; count = g.count + 1; twice = true })) (sym (set-get_or g.slots number empty)) made
 
-    -- the number is new: its place takes the bytes of the fragment
-    pub met_new : (bytes : Bor (List ℕ)) (g' : Gathering) {number : ℕ} → number ≡ get_or body 0 0 → g'.fragments ≡ set g.fragments number (Some bytes) → g' ≡ record g { fragments = g'.fragments; count = g.count + 1 }
-        → bytes.now ≡ drop 2 body → length body < 256 → get_or body 0 0 < 256 → is_some (get_or g.fragments (get_or body 0 0) None) ≡ false → Tabled (ds ++ d ∷ []) g'
-    met_new bytes g' at put same e short byte free =
-        let sl : g'.fragments ≡ set g.fragments (get_or body 0 0) (Some bytes) = put ∙ ap (λ n. set g.fragments n (Some bytes)) at in
-        let zero-tally : tally f.number fs ≡ 0 = placed_free fs f.number (get_or g.fragments f.number None) free (h.places f.number) in
+    -- the number is new: its slot takes the bytes of the fragment
+    pub met_new : (bytes : Bor (List ℕ)) {number : ℕ} → number ≡ get_or body 0 0 → bytes.now ≡ drop 2 body → length body < 256 → get_or body 0 0 < 256 → is_some (get_or g.slots (get_or body 0 0) empty).fragment ≡ false
+        → Tabled (ds ++ d ∷ []) (record g { slots = set g.slots number (record { fragment = Some bytes }); count = g.count + 1 })
+    met_new bytes at e short byte free =
+        let s : Slot = record { fragment = Some bytes } in
+        let zero-tally : tally f.number fs ≡ 0 = placed_free fs f.number (get_or g.slots f.number empty).fragment free (h.places f.number) in
         let r : repeats (fs ++ f ∷ []) ≡ repeats fs = repeats_more fs f ∙ (ap (λ n. repeats fs || ltb 0 n) zero-tally ∙ or-false (repeats fs)) in
         let small : length bytes.now < 256 = omega (arith, ap length e ∙ length-drop 2 body) in
-        let new : Placed (fs ++ f ∷ []) f.number (Some bytes) = placed_new fs f bytes e small zero-tally in
-        let inside : f.number < length g.fragments = omega (arith, h.table) in
-        let each : (k : ℕ) → Placed (fs ++ f ∷ []) k (get_or (set g.fragments f.number (Some bytes)) k None) = λ k. elim (cases_eq k f.number) [
-          | inl q ↦ subst (λ n. Placed (fs ++ f ∷ []) n (get_or (set g.fragments f.number (Some bytes)) n None)) (sym q) (subst (Placed (fs ++ f ∷ []) f.number) (sym (get_or-set_same g.fragments f.number (Some bytes) None inside)) new)
-          | inr apart ↦ subst (Placed (fs ++ f ∷ []) k) (sym (get_or-set_other g.fragments f.number k (Some bytes) None apart)) (placed_other fs f k (get_or g.fragments k None) (λ q. apart (sym q)) (h.places k))
+        let new : Placed (fs ++ f ∷ []) f.number s = placed_new fs f bytes e small zero-tally in
+        let inside : f.number < length g.slots = omega (arith, h.table) in
+        let each : (k : ℕ) → Placed (fs ++ f ∷ []) k (get_or (set g.slots f.number s) k empty) = λ k. elim (cases_eq k f.number) [
+          | inl q ↦ subst (λ n. Placed (fs ++ f ∷ []) n (get_or (set g.slots f.number s) n empty)) (sym q) (subst (Placed (fs ++ f ∷ []) f.number) (sym (get_or-set_same g.slots f.number s empty inside)) new)
+          | inr apart ↦ subst (Placed (fs ++ f ∷ []) k) (sym (get_or-set_other g.slots f.number k s empty apart)) (placed_other fs f k (get_or g.slots k empty).fragment (λ q. apart (sym q)) (h.places k))
         ] in
-        let made : Tabled (ds ++ d ∷ []) (record g { fragments = set g.fragments f.number (Some bytes); count = g.count + 1 }) = record {
+        let made : Tabled (ds ++ d ∷ []) (record g { slots = set g.slots f.number s; count = g.count + 1 }) = record {
           broken = h.broken ∙ sym unbroken;
           count = counted;
           twice = h.twice ∙ sym (ap repeats pushed ∙ r);
-          table = length-set g.fragments f.number (Some bytes) ∙ h.table;
-          places = λ k. kept (fs ++ f ∷ []) (fragments_of (ds ++ d ∷ [])) k (get_or (set g.fragments f.number (Some bytes)) k None) pushed (each k);
+          table = length-set g.slots f.number s ∙ h.table;
+          places = λ k. kept (fs ++ f ∷ []) (fragments_of (ds ++ d ∷ [])) k (get_or (set g.slots f.number s) k empty) pushed (each k);
         } in
-        subst (Tabled (ds ++ d ∷ [])) (sym (same ∙ ap (λ t. record g { fragments = t; count = g.count + 1 }) sl)) made
+        subst (λ n. Tabled (ds ++ d ∷ []) (record g { slots = set g.slots n s; count = g.count + 1 })) (sym at) made
 
 -- the descriptor in front of some bytes is the one whose body was split off
 pub tabled_front : (ds : List Descriptor) (g : Gathering) (bs body : List ℕ) → get_or bs 0 0 ≡ 3 → body ≡ take (get_or bs 1 0) (take (length bs - 2) (drop 2 bs)) → Tabled (ds ++ record { tag = 3; body = body } ∷ []) g → Tabled (ds ++ front bs ∷ []) g

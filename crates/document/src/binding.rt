@@ -7,11 +7,11 @@ ghost use Rattle.document.specs.Tables.{Tabled, Binds, placed_bytes, pieces};
 
 use crate::escape::put;
 use crate::refusal::DocumentRefusal;
-use crate::slots::Gathering;
+use crate::slots::{Gathering, Slot};
 
 impl<'a> Gathering<'a> {
     // The fragments in rising number, or the first test that they fail.
-    pub(crate) fn bound(&self) -> Result<&[Option<&'a [u8]>], DocumentRefusal>
+    pub(crate) fn bound(&self) -> Result<&[Slot<'a>], DocumentRefusal>
         ensures binds { (ds : List Descriptor) → Tabled ds self.now → Binds ds result }
     {
         if self.broken {
@@ -23,47 +23,50 @@ impl<'a> Gathering<'a> {
         if self.twice {
             return Err(DocumentRefusal::Twice);
         }
-        let fragments = self
-            .fragments
+        let slots = self
+            .slots
             .get(1..=usize::from(self.count))
             .ok_or(DocumentRefusal::Gap)?;
-        if is_full(fragments) {
-            Ok(fragments)
+        if is_full(slots) {
+            Ok(slots)
         } else {
             Err(DocumentRefusal::Gap)
         }
     }
 }
 
-// Whether a fragment stands at each place.
-fn is_full(places: &[Option<&[u8]>]) -> bool
-    ensures value { result ≡ list_all is_some places.now }
+// Whether each slot has a fragment.
+fn is_full(slots: &[Slot<'_>]) -> bool
+    ensures value { result ≡ list_all (λ s. is_some s.fragment) slots.now }
 {
-    places.iter().all(|place| place.is_some())
+    slots.iter().all(|slot| slot.fragment.is_some())
 }
 
-// The bytes at a place of the table.
-fn bytes_at<'a>(place: &Option<&'a [u8]>) -> &'a [u8]
-    ensures value { result.now ≡ placed_bytes place.now }
-{
-    place.unwrap_or(&[])
+impl<'a> Slot<'a> {
+    // The bytes of its fragment, if it has one.
+    fn bytes(&self) -> &'a [u8]
+        ensures value { result.now ≡ placed_bytes self.now }
+    {
+        self.fragment.unwrap_or(&[])
+    }
 }
 
 // How many bytes the fragments have together.
-pub(crate) fn total(fragments: &[Option<&[u8]>]) -> usize
-    requires { sum_by (λ p. length (placed_bytes p)) fragments.now ≤ 65535 }
-    ensures value { result ≡ length (pieces fragments.now) }
+pub(crate) fn total(slots: &[Slot<'_>]) -> usize
+    requires { sum_by (λ s. length (placed_bytes s)) slots.now ≤ 65535 }
+    ensures value { result ≡ length (pieces slots.now) }
 {
-    fragments.iter().map(|place| bytes_at(place).len()).sum()
+    slots.iter().map(|slot| slot.bytes().len()).sum()
 }
 
-// Writes the fragments, one after another, to the front of `work`.
-pub(crate) fn write(fragments: &[Option<&[u8]>], work: &mut [u8])
-    requires { length (pieces fragments.now) ≤ length work.old }
-    ensures after { work.new ≡ pieces fragments.now ++ drop (length (pieces fragments.now)) work.old }
+// Writes the fragments, one after another, to the front of `work`. The loop of `put_escaped` over parts of another
+// kind: a function over an iterator of parts would have to say in its clause what that yields.
+pub(crate) fn write(slots: &[Slot<'_>], work: &mut [u8])
+    requires { length (pieces slots.now) ≤ length work.old }
+    ensures after { work.new ≡ pieces slots.now ++ drop (length (pieces slots.now)) work.old }
 {
     let mut done: usize = 0;
-    for place in fragments {
-        done = put(work, done, bytes_at(place));
+    for slot in slots {
+        done = put(work, done, slot.bytes());
     }
 }

@@ -24,3 +24,28 @@ pub fn deliver<'a>(
     let document = hand_out(&filled, out)?;
     Ok(document)
 }
+
+#[cfg(test)]
+mod tests {
+    use super::deliver;
+    use crate::undelivered::DeliveryRefusal;
+    use crate::unfilled::FillRefusal;
+    use section::Section;
+    use std::test::Fail;
+
+    // Carries the document <a><AlertText></AlertText></a>, which takes 54 bytes with the words below.
+    const SECTION: &[u8] = b"\xD8\xB0\x54\0\0\xCF\0\0\0\0\x10WXR\0\0\x3C\0\0\0\0\0\xF0\xFF\xFF\
+        \0\0\xFC\x03\xFC\x01\0\0\0\0\x01\x06\x0C\x25\0\xFC\x29\x03\x12\x02\x10</AlertText></a>\
+        A\x01\xFF\x03\x10\x01\x0E<a><AlertText>\x80\x7D\x7D\x39";
+
+    // `deliver` cannot promise it: its answer borrows from `out`.
+    #[test]
+    fn leaves_a_short_buffer(rt: HostRuntime) -> Result<(), Fail> {
+        let section = Section::read(SECTION);
+        let (mut work, mut out) = ([0; 30], [7; 53]);
+        let answer = deliver(&section, b"Fire & <smoke>", &mut work, &mut out);
+        assert_eq!(rt; answer, Err(DeliveryRefusal::Fill(FillRefusal::Short)));
+        assert_eq!(rt; out, [7; 53]);
+        Ok(())
+    }
+}

@@ -8,10 +8,10 @@ use std::slice;
 fn escaped(byte: &u8) -> &[u8]
     ensures value { result.now ≡ escaped byte.now }
 {
-    match byte {
-        b'&' => b"&amp;",
-        b'<' => b"&lt;",
-        b'>' => b"&gt;",
+    match char::from(*byte) {
+        '&' => b"&amp;",
+        '<' => b"&lt;",
+        '>' => b"&gt;",
         _ => slice::from_ref(byte),
     }
 }

@@ -1,26 +1,20 @@
 // The place where a document takes words, and the document written with words in it.
-ghost use Rattle.std.specs.Prelude.{◌≡◌, ◌+◌, ◌≤◌, ◌++◌, length, take, drop, IfSome, Decides};
+ghost use Rattle.std.specs.Prelude.{◌≡◌, ◌+◌, ◌≤◌, ◌++◌, length, take, drop, IfSome};
 ghost use Rattle.document.specs.Escaping.{escape as escapeOf};
-ghost use Rattle.document.specs.Placeholder.{Stands, First, Puts};
+ghost use Rattle.document.specs.Placeholder.{First, Puts};
 
 use crate::escape::{escaped_len, put, put_escaped};
 
 const PLACEHOLDER: &[u8] = b"<AlertText></AlertText>";
-
-// Whether the placeholder stands at `at`.
-fn stands(document: &[u8], at: usize) -> bool
-    requires { at ≤ length document.now }
-    ensures value { Decides result (Stands document.now at) }
-{
-    document[at..].starts_with(PLACEHOLDER)
-}
 
 // The first place where the placeholder stands.
 fn find(document: &[u8]) -> Option<usize>
     ensures value { First document.now result }
     ensures bound { IfSome result (λ i. i + 23 ≤ length document.now) }
 {
-    (0..document.len()).find(|at| stands(document, *at))
+    document
+        .windows(PLACEHOLDER.len())
+        .position(|window| window == PLACEHOLDER)
 }
 
 // Writes the document with the words, escaped, after the eleven bytes of the opening tag at `at`.

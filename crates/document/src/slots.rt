@@ -1,13 +1,20 @@
-// The table of a gathering: the fragment of each number.
+// The table of a gathering: a slot for each fragment number.
 ghost use Rattle.std.specs.Prelude.{◌≡◌, ◌+◌, ◌<◌, ◌≤◌, [], ◌∷◌, ◌++◌, List, length};
 ghost use Rattle.document.specs.Descriptors.{Descriptor};
 ghost use Rattle.document.specs.Fragments.{breaks};
 ghost use Rattle.document.specs.Tables.{Tabled};
 
+// Of one fragment number.
+#[derive(Clone, Copy)]
+pub(crate) struct Slot<'a> {
+    // the bytes of the first fragment of that number, where one was met
+    pub(crate) fragment: Option<&'a [u8]>,
+}
+
 #[derive(Drop)]
 pub(crate) struct Gathering<'a> {
-    // the bytes of the fragment of each number, where one was met
-    pub(crate) fragments: [Option<&'a [u8]>; 256],
+    // one for each number; in place, since no heap is asked for
+    pub(crate) slots: [Slot<'a>; 256],
     // how many fragments were met
     pub(crate) count: u16,
     // Two flags, since either may stand alone: one field for the graver fault would have to say their order twice.
@@ -29,7 +36,7 @@ impl<'a> Gathering<'a> {
         ensures holds { Tabled [] result }
     {
         Gathering {
-            fragments: [None; 256],
+            slots: [Slot { fragment: None }; 256],
             count: 0,
             broken: false,
             twice: false,
@@ -49,9 +56,9 @@ impl<'a> Gathering<'a> {
             return;
         }
         self.count += 1;
-        let number = usize::from(body[0]);
-        if self.fragments[number].is_none() {
-            self.fragments[number] = Some(&body[2..]);
+        let slot = &mut self.slots[usize::from(body[0])];
+        if slot.fragment.is_none() {
+            slot.fragment = Some(&body[2..]);
         } else {
             self.twice = true;
         }

@@ -8,13 +8,7 @@ use std::io;
 use std::io::Write;
 
 fn service(source: u16, major: u16, minor: u16) -> Service {
-    Service {
-        source: SourceId(source),
-        channel: ChannelPair { major, minor },
-        controlled: false,
-        paid: false,
-        apart: false,
-    }
+    Service::unmarked(SourceId(source), ChannelPair { major, minor })
 }
 
 // As it is printed: 1 for what is named, 0 for what is not, else the number of a refusal.

@@ -1,4 +1,4 @@
--- No kind of entry is without bytes.
+-- No kind of entry is without bytes. Assumes nothing.
 use Rattle.std.specs.Prelude.{◌<◌}
 use Rattle.std.proofs.Common.{arith}
 

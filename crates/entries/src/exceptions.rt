@@ -40,14 +40,8 @@ fn source_of(entry: &[u8]) -> SourceId
 }
 
 impl Exception {
-    pub fn read(entry: &[u8; 5]) -> Exception
-        ensures { result ≡ exception_of entry.now }
-    {
-        Exception::of(entry)
-    }
-
-    // The same of any bytes.
-    fn of(entry: &[u8]) -> Exception
+    // Of the entry at the front, past the bytes of zeros.
+    pub fn read(entry: &[u8]) -> Exception
         ensures value { result ≡ exception_of entry.now }
     {
         if is_flagged(entry) {
@@ -72,7 +66,7 @@ impl Entry for Exception {
     }
 
     fn names(entry: &[u8], tuned: &Tuned) -> bool {
-        match (tuned.path, Exception::of(entry)) {
+        match (tuned.path, Exception::read(entry)) {
             (Path::InBand, Exception::Channel(pair)) => pair.names(tuned.service.channel),
             (Path::OutOfBand, Exception::Source(id)) => id.names(tuned.service.source),
             _ => false,

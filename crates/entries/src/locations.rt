@@ -7,7 +7,7 @@ use super::entry::Entry;
 use octets::{byte_at, ten_bits};
 use station::Place;
 
-// What a location entry states; 0 stands for all states, all counties, all parts.
+// What a location entry states; 0 stands for all states, all counties, all parts, as it is sent.
 #[derive(Clone, Copy, PartialEq, Eq, Debug)]
 pub struct Location {
     pub state: u8,
@@ -16,14 +16,8 @@ pub struct Location {
 }
 
 impl Location {
-    pub fn read(entry: &[u8; 3]) -> Location
-        ensures { result ≡ location_of entry.now }
-    {
-        Location::of(entry)
-    }
-
-    // The same of any bytes.
-    fn of(entry: &[u8]) -> Location
+    // Of the entry at the front, past the bytes of zeros.
+    pub fn read(entry: &[u8]) -> Location
         ensures value { result ≡ location_of entry.now }
     {
         Location {
@@ -59,6 +53,6 @@ impl Entry for Location {
     }
 
     fn names(entry: &[u8], place: &Place) -> bool {
-        Location::of(entry).names(place)
+        Location::read(entry).names(place)
     }
 }

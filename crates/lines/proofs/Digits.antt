@@ -17,16 +17,16 @@ or_small a b =
     let o : a < 16 → b < 16 → bit_or a b < 16 = or_lt 4 a b in
     grind (arith, nat_tests)
 
--- what a byte is worth in the table
-pub looked_small : (b : ℕ) → ltb (cond (is_digit b) (worth b) 255) 16 ≡ is_digit b
-looked_small b = grind (arith, nat_tests)
+-- what a byte is worth, or 255
+pub worth_small : (b : ℕ) → ltb (cond (is_digit b) (worth b) 255) 16 ≡ is_digit b
+worth_small b = grind (arith, nat_tests)
 
--- all bytes looked up and or-ed
+-- what all bytes are worth, or-ed
 pub seen_digits : (xs : List ℕ) (seen : ℕ) → ltb (fold (λ s b. bit_or s (cond (is_digit b) (worth b) 255)) seen xs) 16 ≡ (ltb seen 16 && all_digits xs)
 seen_digits [] seen = sym (and-true (ltb seen 16))
 seen_digits (x ∷ xs) seen =
     seen_digits xs (bit_or seen (cond (is_digit x) (worth x) 255))
-    ∙ ap (λ t. t && all_digits xs) (or_small seen (cond (is_digit x) (worth x) 255) ∙ ap (λ t. ltb seen 16 && t) (looked_small x))
+    ∙ ap (λ t. t && all_digits xs) (or_small seen (cond (is_digit x) (worth x) 255) ∙ ap (λ t. ltb seen 16 && t) (worth_small x))
     ∙ and_assoc (ltb seen 16) (is_digit x) (all_digits xs)
 
 pub digit_at : (xs : List ℕ) (i : ℕ) → i < length xs → all_digits xs ≡ true → is_digit (get_or xs i 0) ≡ true

@@ -1,11 +1,12 @@
--- The first line feed: as a search finds it, and in two parts of a list. Assumes nothing.
-use Rattle.std.proofs.Common.{◌≡◌, ℕ, suc, ◌+◌, ◌≤◌, Bool, true, false, cond, List, [], ◌∷◌, ◌++◌, length, take, Some, None, Option, sym, refl, ap, ◌∙◌, one-add, arith, length-append, length-take}
+-- The first mark as a search finds it, and the first line feed in two parts of a list. Assumes nothing.
+use Rattle.std.proofs.Common.{◌≡◌, ℕ, suc, ◌+◌, ◌≤◌, Bool, true, false, cond, ltb, List, [], ◌∷◌, ◌++◌, length, take, Some, None, Option, sym, refl, ap, ◌∙◌, one-add, arith, length-append, length-take}
 use Rattle.std.specs.Prelude.{is_some}
 use Rattle.std.specs.Option.{unwrap_or}
+use Rattle.std.proofs.lemmas.List.{take_all}
 use Rattle.std.proofs.lemmas.List.Sums.{prefix_len_is, prefix_len-le-length}
 use Rattle.std.proofs.lemmas.Bool.{le-ltb, lt-ltb, ltb-false, not_from_true, not_from_false, false_from_ne_true}
 use Rattle.memchr.specs.Find.{IsFirstByte, is_byte}
-use Rattle.lines.specs.Ends.{in_line, feed_at, has_feed, before_feed}
+use Rattle.lines.specs.Ends.{in_line, feed_at, has_feed, before_feed, through_feed}
 use Rattle.lines.specs.Marks.{is_other, mark_at}
 
 -- the first place of a mark, or else the end
@@ -15,10 +16,22 @@ first_mark m xs None h =
 first_mark m xs (Some n) h =
     sym (prefix_len_is (is_other m) xs n 0 (omega (arith, h.0.high)) (λ k l. not_from_false _ (false_from_ne_true _ (h.0.before k (omega arith) l))) (λ l. not_from_true _ h.1))
 
--- whether a search for the line feed finds one
-pub feed_found : (xs : List ℕ) (r : Option ℕ) → IsFirstByte (is_byte 10) xs r → is_some r ≡ has_feed xs
-feed_found xs None h = sym (le-ltb (feed_at xs) (length xs) (omega (arith, first_mark 10 xs None h)))
-feed_found xs (Some n) h = sym (lt-ltb (feed_at xs) (length xs) (omega (arith, first_mark 10 xs (Some n) h, h.0.high)))
+-- whether a search for a mark finds one
+pub mark_found : (m : ℕ) (xs : List ℕ) (r : Option ℕ) → IsFirstByte (is_byte m) xs r → is_some r ≡ ltb (mark_at m xs) (length xs)
+mark_found m xs None h = sym (le-ltb (mark_at m xs) (length xs) (omega (arith, first_mark m xs None h)))
+mark_found m xs (Some n) h = sym (lt-ltb (mark_at m xs) (length xs) (omega (arith, first_mark m xs (Some n) h, h.0.high)))
+
+-- what is cut off at the line feed that a search finds, and where it finds none
+pub cut_found : (xs : List ℕ) (n : ℕ) → IsFirstByte (is_byte 10) xs (Some n) → (n + 1 ≡ through_feed xs) × (true ≡ has_feed xs) × (take n xs ≡ before_feed xs)
+cut_found xs n h =
+    let at = first_mark 10 xs (Some n) h in
+    let has = mark_found 10 xs (Some n) h in
+    (ap (λ k. k + 1) at ∙ ap (λ t. cond t (feed_at xs + 1) (length xs)) has, has, ap (λ k. take k xs) at)
+
+pub cut_nowhere : (xs : List ℕ) → IsFirstByte (is_byte 10) xs None → (length xs ≡ through_feed xs) × (false ≡ has_feed xs) × (xs ≡ before_feed xs)
+cut_nowhere xs h =
+    let has = mark_found 10 xs None h in
+    (ap (λ t. cond t (feed_at xs + 1) (length xs)) has, has, sym (take_all (feed_at xs) xs (omega (arith, first_mark 10 xs None h))))
 
 -- two parts: the second counts where the first has no line feed
 all_step : (b : Bool) (n m l y : ℕ) → (n ≡ l → m ≡ l + y) → cond b (1 + n) 0 ≡ suc l → cond b (1 + m) 0 ≡ suc l + y

@@ -1,5 +1,5 @@
 -- What a buffer holds of a line: its first bytes, and of those past them their number and their kind. Assumes nothing.
-use Rattle.std.specs.Prelude.{◌≡◌, ℕ, ◌-◌, ◌^◌, min, Bool, false, List, [], ◌++◌, length, take, drop, Ok, Err, vec_items, Result}
+use Rattle.std.specs.Prelude.{◌≡◌, ℕ, ◌-◌, ◌^◌, ◌<◌, min, Bool, false, List, [], ◌++◌, length, take, drop, Ok, Err, vec_items, Result}
 use Rattle.std.specs.declared.alloc.AllocError.{AllocError}
 use Rattle.lines.specs.declared.buffer.LineBuffer.{LineBuffer}
 use Rattle.lines.specs.declared.buffer.Taken.{Taken}
@@ -14,6 +14,10 @@ pub record Holds (buffer : LineBuffer) (line : List ℕ) : Type 0 where
 -- what is said of whatever line the buffer holds
 abbrev pub OfLine : LineBuffer → (List ℕ → Type 0) → Type 0
 OfLine buffer says = (line : List ℕ) → Holds buffer line → says line
+
+-- the same of a line whose bytes a number of 64 bits can count
+abbrev pub OfCountedLine : LineBuffer → (List ℕ → Type 0) → Type 0
+OfCountedLine buffer says = OfLine buffer (λ line. length line < 2 ^ 64 → says line)
 
 -- of the bytes held by a reader, those before the first line feed go on with whatever line the buffer held; without memory it holds the same line still
 abbrev pub Takes : LineBuffer → LineBuffer → List ℕ → Result Taken AllocError → Type 0

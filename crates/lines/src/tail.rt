@@ -2,8 +2,6 @@
 ghost use Rattle.std.specs.Prelude.{◌≡◌, fold};
 ghost use Rattle.lines.specs.Tails.{tail_after};
 
-use crate::hex::is_digit;
-
 #[derive(Clone, Copy, PartialEq, Eq, Debug)]
 pub enum Tail {
     // hexadecimal digits only, or nothing
@@ -18,7 +16,7 @@ impl Tail {
         ensures value { result ≡ tail_after self byte }
     {
         match self {
-            Tail::Digits if is_digit(byte) => Tail::Digits,
+            Tail::Digits if byte.is_ascii_hexdigit() => Tail::Digits,
             Tail::Digits if byte == b'\r' => Tail::Returned,
             _ => Tail::Other,
         }

@@ -1,7 +1,7 @@
 // Hexadecimal digits after a key, on a line of any length.
-ghost use Rattle.std.specs.Prelude.{◌≡◌, ℕ, ◌^◌, ◌<◌, ◌≤◌, length, take, drop, if◌then◌else◌, nat_le};
+ghost use Rattle.std.specs.Prelude.{◌≡◌, ℕ, ◌<◌, ◌≤◌, length, take, drop, if◌then◌else◌, nat_le, MatchOption};
 ghost use Rattle.lines.specs.Ends.{unreturned};
-ghost use Rattle.lines.specs.Held.{OfLine};
+ghost use Rattle.lines.specs.Held.{OfLine, OfCountedLine};
 ghost use Rattle.lines.specs.Keys.{after as reading, paired, pairs, put_into};
 ghost use Rattle.lines.specs.Tails.{digits_past};
 
@@ -32,7 +32,7 @@ fn pair_up(all: bool, digits: u64) -> Option<u64>
 
 // How many bytes the digits stand for of which only the first are kept.
 fn long_size(kept: &[u8], line: &LineBuffer) -> Option<u64>
-    ensures value { OfLine line.now (λ text. (n : ℕ) → line.now.most < length text → length text < 2 ^ 64 → n ≤ line.now.most → kept.now ≡ drop n (take line.now.most text) → result ≡ pairs (drop n (unreturned text))) }
+    ensures value { OfCountedLine line.now (λ text. (n : ℕ) → line.now.most < length text → n ≤ line.now.most → kept.now ≡ drop n (take line.now.most text) → result ≡ pairs (drop n (unreturned text))) }
 {
     let past = past_digits(line.tail(), line.past())?;
     // here and below: as in Rust there is no `From<usize>` for `u64`
@@ -55,7 +55,7 @@ fn whole_size(digits: &[u8], room: &mut [u8]) -> Option<u64>
 // How many bytes the line states after the key, if it is the key and pairs of digits. Where the line is kept whole
 // and there is room for them, the bytes are at the front of the room; else the room is as it was.
 pub fn hex_value(line: &LineBuffer, key: &[u8], room: &mut [u8]) -> Option<u64>
-    ensures value { OfLine line.now (λ text. length text < 2 ^ 64 → length key.now ≤ line.now.most → result ≡ reading key.now pairs (unreturned text)) }
+    ensures value { OfCountedLine line.now (λ text. length key.now ≤ line.now.most → result ≡ reading key.now pairs (unreturned text)) }
     ensures after { OfLine line.now (λ text. room.new ≡ (if nat_le (length text) line.now.most then put_into room.old (drop (length key.now) (unreturned text)) result else room.old)) }
 {
     if line.is_whole() {
@@ -63,4 +63,11 @@ pub fn hex_value(line: &LineBuffer, key: &[u8], room: &mut [u8]) -> Option<u64>
     } else {
         long_size(value_after(line.bytes(), key)?, line)
     }
+}
+
+// The bytes of a value of so many that stand at the front of the room; none where the room is smaller.
+pub fn value_in(room: &[u8], size: u64) -> Option<&[u8]>
+    ensures cases { MatchOption result (length room.now < size) (λ bytes. (size ≤ length room.now) × (bytes.now ≡ take size room.now)) }
+{
+    room.get(..usize::try_from(size).ok()?)
 }

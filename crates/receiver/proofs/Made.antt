@@ -4,36 +4,38 @@ use Rattle.std.specs.Option.{option_map}
 use Rattle.section.specs.declared.refusal.SectionRefusal.{SectionRefusal}
 use Rattle.decision.specs.declared.alert.Alert.{Alert}
 use Rattle.sets.specs.Meaning.{Meaning}
-use Rattle.calls.specs.Replying.{of_section, of_reading, of_choice}
+use Rattle.calls.specs.Replying.{of_section}
+use Rattle.calls.proofs.Grants.{of_grant}
 use Rattle.calls.specs.declared.answer.Answer.{Answer}
 use Rattle.calls.specs.declared.refusal.ReadingRefusal.{ReadingRefusal}
 use Rattle.calls.specs.declared.refusal.ChoiceRefusal.{ChoiceRefusal}
+use Rattle.calls.specs.declared.refusal.CallRefusal.TheVariants.{Reading, Choice}
 use Rattle.calls.specs.declared.call.Call.{Call}
 use Rattle.calls.specs.declared.reply.Reply.{Reply}
 use Rattle.history.specs.Forces.{EventInForce}
 use Rattle.history.specs.Histories.{Event, sent, told, chose, Start}
 use Rattle.history.specs.Replies.{event, Answers, Reads, Chooses, Replies}
 use Rattle.history.specs.Stands.{Held}
-use Rattle.receiver.specs.Stood.{Stood, GoesOn}
+use Rattle.receiver.specs.Stood.{WhateverCame, GoesOn}
 use Rattle.receiver.specs.declared.receiver.Receiver.{Receiver}
 
 module _ {S : Type 0} (mean : S → Meaning) (call : Call) (e : Event) (is : event call ≡ e) (before after : Receiver S) where
   pub made : GoesOn mean e before after → GoesOn mean (event call) before after
   made = subst (λ (y : Event). GoesOn mean y before after) (sym is)
 
-  pub replied : (r : Reply) → ((s : Start) (h : List Event) → Stood mean s h before → Replies s h e r) → (s : Start) (h : List Event) → Stood mean s h before → Replies s h (event call) r
-  replied r = subst (λ (y : Event). (s : Start) (h : List Event) → Stood mean s h before → Replies s h y r) (sym is)
+  pub replied : (r : Reply) → WhateverCame mean before (λ s h. Replies s h e r) → WhateverCame mean before (λ s h. Replies s h (event call) r)
+  replied r = subst (λ (y : Event). WhateverCame mean before (λ s h. Replies s h y r)) (sym is)
 
 -- what each call gives, as the reply that it becomes
 pub section_replied : (s : Start) (h : List Event) (bytes : List ℕ) (r : Result Answer SectionRefusal) → Answers s h bytes r → Replies s h (sent bytes) (of_section r)
 section_replied s h bytes (Ok a) k = k
 section_replied s h bytes (Err e) k = k
 
-pub reading_replied : (s : Start) (h : List Event) (n : ℕ) (r : Result (Unit {0}) ReadingRefusal) → Reads s h n r → Replies s h (told n) (of_reading r)
+pub reading_replied : (s : Start) (h : List Event) (n : ℕ) (r : Result (Unit {0}) ReadingRefusal) → Reads s h n r → Replies s h (told n) (of_grant Reading r)
 reading_replied s h n (Ok done) k = k
 reading_replied s h n (Err e) k = k
 
-pub choice_replied : (s : Start) (h : List Event) (n : ℕ) (r : Result (Unit {0}) ChoiceRefusal) → Chooses s n r → Replies s h (chose n) (of_choice r)
+pub choice_replied : (s : Start) (h : List Event) (n : ℕ) (r : Result (Unit {0}) ChoiceRefusal) → Chooses s n r → Replies s h (chose n) (of_grant Choice r)
 choice_replied s h n (Ok done) k = k
 choice_replied s h n (Err e) k = k
 

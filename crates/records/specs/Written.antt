@@ -1,5 +1,5 @@
 -- What is written onto the end of a record. Assumes nothing.
-use Rattle.std.specs.Prelude.{◌≡◌, ℕ, ◌+◌, ◌/◌, ◌%◌, ◌⊎◌, cond, List, [], ◌∷◌, ◌++◌, Ok, Err, decimal, Result, nat_lt}
+use Rattle.std.specs.Prelude.{◌≡◌, ℕ, ◌+◌, ◌/◌, ◌%◌, ◌⊎◌, cond, List, [], ◌∷◌, ◌++◌, Ok, Err, Result, nat_lt}
 use Rattle.std.specs.declared.alloc.AllocError.{AllocError}
 
 -- a hexadecimal digit, in capitals
@@ -19,7 +19,3 @@ Adds before more (Err e) after = after ≡ before
 abbrev pub AddsKeyed : List ℕ → List ℕ → List ℕ → Result (Unit {0}) AllocError → List ℕ → Type 0
 AddsKeyed before key text (Ok u) after = after ≡ before ++ (key ++ text)
 AddsKeyed before key text (Err e) after = (after ≡ before) ⊎ (after ≡ before ++ key)
-
--- a key and a number
-abbrev pub AddsField : List ℕ → List ℕ → ℕ → Result (Unit {0}) AllocError → List ℕ → Type 0
-AddsField before key n result after = AddsKeyed before key (decimal n) result after

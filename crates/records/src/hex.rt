@@ -2,7 +2,8 @@
 ghost use Rattle.std.specs.Prelude.{◌≡◌, ◌<◌};
 ghost use Rattle.records.specs.Written.{digit, in_hex};
 
-// `char::from_digit` writes small letters, and the crate `hex` writes capitals only into new memory.
+// `char::from_digit` writes small letters, `hex` and `format!` write capitals only into new memory, and `write!` of
+// `{:02X}` promises nothing of a record for which memory runs out, where `hex_byte` promises that it stays as it was.
 fn hex_digit(nibble: u8) -> u8
     requires { nibble < 16 }
     ensures { result ≡ digit nibble }

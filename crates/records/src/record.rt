@@ -1,19 +1,27 @@
 // A record that is put together piece by piece.
-ghost use Rattle.std.specs.Prelude.{◌≡◌, []};
+ghost use Rattle.std.specs.Prelude.{◌≡◌, ℕ, List, []};
 ghost use Rattle.records.specs.Written.{Adds, AddsKeyed, in_hex};
 
 use super::hex::in_hex;
 use itoa::{Buffer, Integer};
 use std::alloc::{AllocError, Global};
+use std::marker::Model;
 
 #[derive(Drop)]
 pub struct Record {
     held: Vec<u8>,
 }
 
+// A record is seen as its bytes.
+impl Model for Record {
+    ghost Value = { List ℕ };
+
+    ghost view = { λ r. r.held.items };
+}
+
 impl Record {
     pub fn new(heap: Global) -> Record
-        ensures { result.held.items ≡ [] }
+        ensures { result ≡ [] }
     {
         Record {
             held: Vec::new(heap),
@@ -21,26 +29,26 @@ impl Record {
     }
 
     pub fn bytes(&self) -> &[u8]
-        ensures { result.now ≡ self.now.held.items }
+        ensures { result.now ≡ self.now }
     {
         self.held.as_slice()
     }
 
     pub fn clear(&mut self)
-        ensures { self.new.held.items ≡ [] }
+        ensures { self.new ≡ [] }
     {
         self.held.clear();
     }
 
     pub fn text(&mut self, part: &[u8]) -> Result<(), AllocError>
-        ensures { Adds self.old.held.items part.now result self.new.held.items }
+        ensures { Adds self.old part.now result self.new }
     {
         self.held.extend_from_slice(part)
     }
 
     // In decimal.
     pub fn number<I: Integer>(&mut self, n: I) -> Result<(), AllocError>
-        ensures { Adds self.old.held.items (I.text n) result self.new.held.items }
+        ensures { Adds self.old (I.text n) result self.new }
     {
         self.held
             .extend_from_slice(Buffer::new().format(n).as_bytes())
@@ -48,7 +56,7 @@ impl Record {
 
     // A key and a number in decimal. Without memory for the number, the key alone may be held.
     pub fn field<I: Integer>(&mut self, key: &[u8], n: I) -> Result<(), AllocError>
-        ensures { AddsKeyed self.old.held.items key.now (I.text n) result self.new.held.items }
+        ensures { AddsKeyed self.old key.now (I.text n) result self.new }
     {
         self.text(key)?;
         self.number(n)
@@ -56,7 +64,7 @@ impl Record {
 
     // In hexadecimal capitals.
     pub fn hex_byte(&mut self, byte: u8) -> Result<(), AllocError>
-        ensures { Adds self.old.held.items (in_hex byte) result self.new.held.items }
+        ensures { Adds self.old (in_hex byte) result self.new }
     {
         self.held.extend_from_slice(&in_hex(byte))
     }

@@ -1,3 +1,5 @@
+pub mod Calling
+pub mod Exchanges
 pub mod Printed
 pub mod Setups
 pub mod Told

@@ -1,7 +1,8 @@
 // The lines of the script, and the answers to them.
-ghost use Rattle.std.specs.Prelude.{◌≡◌, ◌+◌, ◌-◌, ◌^◌, min, [], IfOk, OnOk, vec_items, codes};
+ghost use Rattle.std.specs.Prelude.{◌≡◌, ◌+◌, ◌-◌, ◌^◌, min, IfOk, OnOk, codes};
+ghost use Rattle.rehearse.specs.Exchanges.{AllWritten, WritesAll};
 ghost use Rattle.rehearse.specs.Printed.{numbered};
-ghost use Rattle.rehearse.specs.Told.{Tells};
+ghost use Rattle.rehearse.specs.Told.{Empty, Tells};
 
 use crate::input::Input;
 use crate::output::Output;
@@ -16,7 +17,7 @@ pub struct Exchange {
 
 impl Exchange {
     pub fn new(rt: &HostRuntime) -> io::Result<Exchange>
-        ensures { IfOk result (λ x. (x.input.number ≡ 0) × (vec_items x.output.printer.record.held ≡ []) × (x.output.printer.outcome ≡ Ok tt)) }
+        ensures { IfOk result (λ x. (x.input.number ≡ 0) × Empty x.output.printer) }
     {
         Ok(Exchange {
             input: Input::new(rt)?,
@@ -26,7 +27,8 @@ impl Exchange {
 
     // What the next line asks for; none at the end of the script. Before a read that may wait, all answers are out.
     pub fn next(&mut self) -> io::Result<Option<Asked>>
-        ensures { OnOk result (self.new.input.number ≡ min (2 ^ 64 - 1) (self.old.input.number + 1)) }
+        ensures number { OnOk result (self.new.input.number ≡ min (2 ^ 64 - 1) (self.old.input.number + 1)) }
+        ensures same { self.new.output.printer ≡ self.old.output.printer }
     {
         if !self.input.has_line() {
             self.output.flush()?;
@@ -35,14 +37,16 @@ impl Exchange {
     }
 
     // Prints the number of the line, and writes nothing yet.
-    fn print_not_understood(&mut self)
-        ensures { Tells self.old.output.printer self.new.output.printer (numbered (codes "call=none line=") self.old.input.number) }
+    pub fn print_not_understood(&mut self)
+        ensures line { Tells self.old.output.printer self.new.output.printer (numbered (codes "call=none line=") self.old.input.number) }
+        ensures same { self.new.input ≡ self.old.input }
     {
         self.output.printer.not_understood(self.input.number());
     }
 
     pub fn not_understood(&mut self) -> io::Result<()>
-        ensures { OnOk result (vec_items self.new.output.printer.record.held ≡ []) }
+        ensures written { OnOk result (AllWritten self.new) }
+        ensures same { self.new.input ≡ self.old.input }
     {
         self.print_not_understood();
         self.output.write()
@@ -54,7 +58,9 @@ impl Exchange {
         first: Asked,
         mut answer: F,
     ) -> io::Result<()>
-        requires { F.IsAlwaysCallable answer }
+        requires callable { F.IsAlwaysCallable answer }
+        requires written { WritesAll F.FnMut }
+        ensures { AllWritten self.old → OnOk result (AllWritten self.new) }
     {
         answer(self, first)?;
         // a script may have no end, so that no measure falls in a `while let`

@@ -3,7 +3,7 @@ ghost use Rattle.std.specs.Prelude.{◌≡◌, ◌+◌, ◌-◌, ◌^◌, min, t
 ghost use Rattle.std.specs.Io.Buffered.{reader_buffer};
 ghost use Rattle.lines.specs.Ends.{has_feed};
 
-use lines::LineBuffer;
+use lines::{LineBuffer, value_in};
 use script::{Asked, read_line};
 use std::io;
 use std::io::{BufReader, Stdin};
@@ -65,8 +65,6 @@ impl Input {
     pub fn section(&self, size: u64) -> &[u8]
         ensures { result.now ≡ take size self.now.room }
     {
-        let held = usize::try_from(size).ok();
-        held.and_then(|size| self.room.get(..size))
-            .unwrap_or(&self.room)
+        value_in(&self.room, size).unwrap_or(&self.room)
     }
 }

@@ -28,11 +28,11 @@ fn run(rt: &HostRuntime) -> io::Result<()> {
         Ok(beginning) => match beginning.kind {
             SetKind::Bus => {
                 let bus = StudioBus::new();
-                play(&mut exchange, bus, &beginning, first)?;
+                play(&mut exchange, bus, beginning.outset, first)?;
             }
             SetKind::Map => {
                 let map = ChannelMap::new(setup.table(), beginning.start);
-                play(&mut exchange, map, &beginning, first)?;
+                play(&mut exchange, map, beginning.outset, first)?;
             }
         },
         Err(refusal) => ignore(&mut exchange, refusal, first)?,

@@ -1,5 +1,7 @@
 // Where the answers go.
-ghost use Rattle.std.specs.Prelude.{◌≡◌, [], IfOk, OnOk, vec_items};
+ghost use Rattle.std.specs.Prelude.{◌≡◌, [], IfOk, OnOk};
+ghost use Rattle.std.specs.Io.Buffered.{writer_buffer};
+ghost use Rattle.rehearse.specs.Told.{Empty};
 
 use crate::printer::Printer;
 use std::io;
@@ -13,7 +15,7 @@ pub struct Output {
 
 impl Output {
     pub fn new(rt: &HostRuntime) -> io::Result<Output>
-        ensures { IfOk result (λ output. (vec_items output.printer.record.held ≡ []) × (output.printer.outcome ≡ Ok tt)) }
+        ensures { IfOk result (λ output. Empty output.printer) }
     {
         Ok(Output {
             writer: BufWriter::new(rt.alloc(), rt.stdout())?,
@@ -24,7 +26,7 @@ impl Output {
     // Writes what was printed.
     pub fn write(&mut self) -> io::Result<()>
         ensures all { OnOk result (self.old.printer.outcome ≡ Ok tt) }
-        ensures after { OnOk result (vec_items self.new.printer.record.held ≡ []) }
+        ensures after { OnOk result (self.new.printer.record ≡ []) }
     {
         self.printer.outcome()?;
         self.writer.write_all(self.printer.bytes())?;
@@ -32,14 +34,11 @@ impl Output {
         Ok(())
     }
 
-    pub fn flush(&mut self) -> io::Result<()> {
-        self.writer.flush()
-    }
-
-    pub fn not_understood(&mut self, line: u64) -> io::Result<()>
-        ensures { OnOk result (vec_items self.new.printer.record.held ≡ []) }
+    // Hands on what was written.
+    pub fn flush(&mut self) -> io::Result<()>
+        ensures after { OnOk result (writer_buffer self.new.writer ≡ []) }
+        ensures same { self.new.printer ≡ self.old.printer }
     {
-        self.printer.not_understood(line);
-        self.write()
+        self.writer.flush()
     }
 }

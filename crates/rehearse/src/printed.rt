@@ -1,16 +1,20 @@
 // The lines that are printed.
 ghost use Rattle.std.specs.Prelude.{◌++◌, codes};
+ghost use Rattle.document.specs.Refusals.{delivery_number, call_of};
+ghost use Rattle.script.specs.Begins.{begin_number};
 ghost use Rattle.rehearse.specs.Printed.{Prints, field, numbered, sound_of, alert_of, entry_of, caption_of, state_of, answer_of, call_line, begin_line, document_lines, undelivered};
 
 use crate::shown::Shown;
+use document::DeliveryRefusal;
 use itoa::Integer;
 use records::Record;
+use script::BeginRefusal;
 use section::EventId;
 use sets::Sound;
 use std::alloc::AllocError;
 
 fn put_sound(out: &mut Record, sound: Sound) -> Result<(), AllocError>
-    ensures { Prints out.old.held.items (sound_of sound) result out.new.held.items }
+    ensures { Prints out.old (sound_of sound) result out.new }
 {
     match sound {
         Sound::Own => out.text(b" sound=own"),
@@ -19,7 +23,7 @@ fn put_sound(out: &mut Record, sound: Sound) -> Result<(), AllocError>
 }
 
 fn put_alert(out: &mut Record, alert: Option<EventId>) -> Result<(), AllocError>
-    ensures { Prints out.old.held.items (alert_of alert) result out.new.held.items }
+    ensures { Prints out.old (alert_of alert) result out.new }
 {
     match alert {
         Some(event) => out.field(b" alert=", event.0),
@@ -28,7 +32,7 @@ fn put_alert(out: &mut Record, alert: Option<EventId>) -> Result<(), AllocError>
 }
 
 fn put_entry(out: &mut Record, entry: Option<usize>) -> Result<(), AllocError>
-    ensures { Prints out.old.held.items (entry_of entry) result out.new.held.items }
+    ensures { Prints out.old (entry_of entry) result out.new }
 {
     match entry {
         Some(entry) => out.field(b" entry=", entry),
@@ -37,7 +41,7 @@ fn put_entry(out: &mut Record, entry: Option<usize>) -> Result<(), AllocError>
 }
 
 fn put_caption(out: &mut Record, caption: &[u8]) -> Result<(), AllocError>
-    ensures { Prints out.old.held.items (caption_of caption.now) result out.new.held.items }
+    ensures { Prints out.old (caption_of caption.now) result out.new }
 {
     out.text(b" caption=")?;
     out.text(caption)?;
@@ -45,7 +49,7 @@ fn put_caption(out: &mut Record, caption: &[u8]) -> Result<(), AllocError>
 }
 
 fn put_state(out: &mut Record, shown: &Shown<'_>) -> Result<(), AllocError>
-    ensures { Prints out.old.held.items (state_of shown.now) result out.new.held.items }
+    ensures { Prints out.old (state_of shown.now) result out.new }
 {
     out.field(b" home=", shown.home)?;
     out.field(b" screen=", shown.screen)?;
@@ -64,7 +68,7 @@ pub struct Answer<'a> {
 }
 
 fn put_answer(out: &mut Record, answer: &Answer<'_>) -> Result<(), AllocError>
-    ensures { Prints out.old.held.items (answer_of answer.now.name.now answer.now.number answer.now.entry) result out.new.held.items }
+    ensures { Prints out.old (answer_of answer.now.name.now answer.now.number answer.now.entry) result out.new }
 {
     out.text(b"call=")?;
     out.text(answer.name)?;
@@ -74,7 +78,7 @@ fn put_answer(out: &mut Record, answer: &Answer<'_>) -> Result<(), AllocError>
 
 // What came of a call.
 pub fn put_call(out: &mut Record, answer: &Answer<'_>, shown: &Shown<'_>) -> Result<(), AllocError>
-    ensures { Prints out.old.held.items (call_line answer.now.name.now answer.now.number answer.now.entry shown.now) result out.new.held.items }
+    ensures { Prints out.old (call_line answer.now.name.now answer.now.number answer.now.entry shown.now) result out.new }
 {
     put_answer(out, answer)?;
     put_state(out, shown)
@@ -82,7 +86,7 @@ pub fn put_call(out: &mut Record, answer: &Answer<'_>, shown: &Shown<'_>) -> Res
 
 // What the receiver begins with.
 pub fn put_begin(out: &mut Record, shown: &Shown<'_>) -> Result<(), AllocError>
-    ensures { Prints out.old.held.items (begin_line shown.now) result out.new.held.items }
+    ensures { Prints out.old (begin_line shown.now) result out.new }
 {
     out.text(b"call=begin")?;
     put_state(out, shown)
@@ -90,26 +94,26 @@ pub fn put_begin(out: &mut Record, shown: &Shown<'_>) -> Result<(), AllocError>
 
 // A line of a key and a number.
 fn put_numbered<I: Integer>(out: &mut Record, key: &[u8], number: I) -> Result<(), AllocError>
-    ensures { Prints out.old.held.items ((key.now ++ I.text number) ++ codes "\n") result out.new.held.items }
+    ensures { Prints out.old ((key.now ++ I.text number) ++ codes "\n") result out.new }
 {
     out.field(key, number)?;
     out.text(b"\n")
 }
 
-pub fn put_begin_refused(out: &mut Record, number: u8) -> Result<(), AllocError>
-    ensures { Prints out.old.held.items (numbered (codes "call=begin refused=") number) result out.new.held.items }
+pub fn put_begin_refused(out: &mut Record, refusal: BeginRefusal) -> Result<(), AllocError>
+    ensures { Prints out.old (numbered (codes "call=begin refused=") (begin_number refusal)) result out.new }
 {
-    put_numbered(out, b"call=begin refused=", number)
+    put_numbered(out, b"call=begin refused=", refusal.number())
 }
 
 pub fn put_not_understood(out: &mut Record, line: u64) -> Result<(), AllocError>
-    ensures { Prints out.old.held.items (numbered (codes "call=none line=") line) result out.new.held.items }
+    ensures { Prints out.old (numbered (codes "call=none line=") line) result out.new }
 {
     put_numbered(out, b"call=none line=", line)
 }
 
 pub fn put_document(out: &mut Record, bytes: &[u8]) -> Result<(), AllocError>
-    ensures { Prints out.old.held.items (document_lines bytes.now) result out.new.held.items }
+    ensures { Prints out.old (document_lines bytes.now) result out.new }
 {
     put_numbered(out, b"call=document bytes=", bytes.len())?;
     out.text(bytes)?;
@@ -117,11 +121,11 @@ pub fn put_document(out: &mut Record, bytes: &[u8]) -> Result<(), AllocError>
 }
 
 // No document, and the call that refused it.
-pub fn put_undelivered(out: &mut Record, number: u8, call: &[u8]) -> Result<(), AllocError>
-    ensures { Prints out.old.held.items (undelivered number call.now) result out.new.held.items }
+pub fn put_undelivered(out: &mut Record, refusal: DeliveryRefusal) -> Result<(), AllocError>
+    ensures { Prints out.old (undelivered (delivery_number refusal) (call_of refusal)) result out.new }
 {
-    out.field(b"call=document refused=", number)?;
+    out.field(b"call=document refused=", refusal.number())?;
     out.text(b" by=")?;
-    out.text(call)?;
+    out.text(refusal.call().as_bytes())?;
     out.text(b"\n")
 }

@@ -1,10 +1,13 @@
 // Prints a line for each call that the receiver is given.
-ghost use Rattle.std.specs.Prelude.{◌≡◌, [], codes, vec_items, Result};
+ghost use Rattle.std.specs.Prelude.{◌≡◌, [], codes, Result};
 ghost use Rattle.std.specs.Fn.{FnOnceReturnsAtMut};
 ghost use Rattle.std.specs.Result.{result_and};
 ghost use Rattle.std.specs.declared.alloc.AllocError.{AllocError};
+ghost use Rattle.document.specs.Refusals.{delivery_number, call_of};
+ghost use Rattle.history.specs.Replies.{event};
+ghost use Rattle.script.specs.Begins.{begin_number};
 ghost use Rattle.rehearse.specs.Printed.{begin_line, call_line, numbered, document_lines, undelivered};
-ghost use Rattle.rehearse.specs.Told.{name_of, Tells, TellsSet};
+ghost use Rattle.rehearse.specs.Told.{Empty, name_of, Tells, TellsCall, TellsSet};
 ghost use Rattle.rehearse.specs.declared.shown.Shown.{Shown};
 
 use crate::printed::{
@@ -13,8 +16,10 @@ use crate::printed::{
 };
 use crate::shown::{Shown, shown_by};
 use calls::{Call, Reply};
+use document::DeliveryRefusal;
 use receiver::{Receiver, Watch};
 use records::Record;
+use script::BeginRefusal;
 use sets::Shows;
 use std::alloc::{AllocError, Global};
 
@@ -26,7 +31,7 @@ pub struct Printer {
 }
 
 fn name_of(call: &Call<'_>) -> &'static [u8]
-    ensures { result.now ≡ name_of call.now }
+    ensures { result.now ≡ name_of (event call.now) }
 {
     match call {
         Call::Section(_) => b"section",
@@ -37,8 +42,7 @@ fn name_of(call: &Call<'_>) -> &'static [u8]
 
 impl Printer {
     pub fn new(heap: Global) -> Printer
-        ensures record { vec_items result.record.held ≡ [] }
-        ensures outcome { result.outcome ≡ Ok tt }
+        ensures { Empty result }
     {
         Printer {
             record: Record::new(heap),
@@ -47,13 +51,13 @@ impl Printer {
     }
 
     pub fn bytes(&self) -> &[u8]
-        ensures { result.now ≡ vec_items self.now.record.held }
+        ensures { result.now ≡ self.now.record }
     {
         self.record.bytes()
     }
 
     pub fn clear(&mut self)
-        ensures record { vec_items self.new.record.held ≡ [] }
+        ensures record { self.new.record ≡ [] }
         ensures same { self.new.outcome ≡ self.old.outcome }
     {
         self.record.clear();
@@ -103,10 +107,10 @@ impl Printer {
         self.begins(&shown_by(receiver));
     }
 
-    pub fn begin_refused(&mut self, number: u8)
-        ensures { Tells self.old self.new (numbered (codes "call=begin refused=") number) }
+    pub fn begin_refused(&mut self, refusal: BeginRefusal)
+        ensures { Tells self.old self.new (numbered (codes "call=begin refused=") (begin_number refusal)) }
     {
-        self.print(|out| put_begin_refused(out, number));
+        self.print(|out| put_begin_refused(out, refusal));
     }
 
     pub fn not_understood(&mut self, line: u64)
@@ -121,16 +125,16 @@ impl Printer {
         self.print(|out| put_document(out, bytes));
     }
 
-    pub fn undelivered(&mut self, number: u8, call: &[u8])
-        ensures { Tells self.old self.new (undelivered number call.now) }
+    pub fn undelivered(&mut self, refusal: DeliveryRefusal)
+        ensures { Tells self.old self.new (undelivered (delivery_number refusal) (call_of refusal)) }
     {
-        self.print(|out| put_undelivered(out, number, call));
+        self.print(|out| put_undelivered(out, refusal));
     }
 }
 
 impl<S: Shows> Watch<S> for Printer {
-    // this does not name the receiver, of which the line tells
-    ghost sees = { λ _ _ _ _. Unit {0} };
+    // this does not name the receiver, of which the line tells too
+    ghost sees = { TellsCall };
 
     fn watch(&mut self, call: &Call<'_>, reply: Reply, receiver: &Receiver<S>) {
         let shown = shown_by(receiver);

@@ -1,7 +1,8 @@
 // The set-up lines, up to the one that ends the set-up.
-ghost use Rattle.std.specs.Prelude.{◌≡◌, [], is_some, OnOk, IfOk};
+ghost use Rattle.std.specs.Prelude.{◌≡◌, ◌≤◌, [], length, is_some, OnOk, IfOk, IfSome};
 ghost use Rattle.script.specs.Begins.{given};
 ghost use Rattle.script.specs.Settled.{settled, unsettled};
+ghost use Rattle.rehearse.specs.Exchanges.{AllWritten, EndsSetup};
 ghost use Rattle.rehearse.specs.Setups.{table_after};
 
 use crate::exchange::Exchange;
@@ -59,7 +60,11 @@ impl Setup {
     }
 
     // Takes the set-up lines, and says what the line that ends the set-up asks for besides; none at the end of the script.
-    pub fn take_lines(&mut self, exchange: &mut Exchange) -> io::Result<Option<Asked>> {
+    pub fn take_lines(&mut self, exchange: &mut Exchange) -> io::Result<Option<Asked>>
+        ensures asked { IfOk result (λ asked. IfSome asked EndsSetup) }
+        ensures bound { length self.old.table.items ≤ 257 → OnOk result (length self.new.table.items ≤ 257) }
+        ensures written { AllWritten exchange.old → OnOk result (AllWritten exchange.new) }
+    {
         // a script may have no end, so that no measure falls in a `while let`
         for _ in 0..u64::MAX {
             let Some(asked) = exchange.next()? else {

@@ -1,15 +1,14 @@
 // What a receiver is at, and what its set shows.
-ghost use Rattle.std.specs.Prelude.{◌≡◌, List};
-ghost use Rattle.history.specs.Histories.{Event, Start};
+ghost use Rattle.std.specs.Prelude.{◌≡◌};
 ghost use Rattle.history.specs.Forces.{EventInForce};
 ghost use Rattle.history.specs.Viewers.{Home};
-ghost use Rattle.receiver.specs.Stood.{Stood};
+ghost use Rattle.receiver.specs.Stood.{WhateverCame};
 
 use receiver::Receiver;
 use section::EventId;
 use sets::{Shows, Sound};
 
-#[derive(Clone, Copy)]
+#[derive(Clone, Copy, PartialEq, Eq, Debug)]
 pub struct Shown<'a> {
     // the viewer's service
     pub home: usize,
@@ -22,10 +21,10 @@ pub struct Shown<'a> {
 }
 
 pub fn shown_by<'a, S: Shows>(receiver: &'a Receiver<S>) -> Shown<'a>
-    ensures home { (s : Start) (h : List Event) → Stood S.Set.meaning s h receiver.now → Home s h result.home }
+    ensures home { WhateverCame S.Set.meaning receiver.now (λ s h. Home s h result.home) }
     ensures screen { result.screen ≡ (S.Set.meaning receiver.now.set).shown }
     ensures sound { result.sound ≡ (S.Set.meaning receiver.now.set).sound }
-    ensures alert { (s : Start) (h : List Event) → Stood S.Set.meaning s h receiver.now → EventInForce s h result.alert }
+    ensures alert { WhateverCame S.Set.meaning receiver.now (λ s h. EventInForce s h result.alert) }
     ensures caption { result.caption.now ≡ (S.Set.meaning receiver.now.set).caption }
 {
     let set = receiver.set();

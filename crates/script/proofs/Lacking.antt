@@ -4,33 +4,33 @@ use Rattle.std.proofs.lemmas.Bool.{ltb-false}
 use Rattle.std.proofs.lemmas.List.{drop_all}
 use Rattle.lines.specs.Decimal.{parsed}
 use Rattle.lines.specs.Marks.{mark_at}
-use Rattle.script.specs.declared.marks.Marks.{Marks}
 use Rattle.script.specs.Parts.{has_mark, before_mark, after_mark}
-use Rattle.script.specs.Services.{short, marks_after, service_by, service_of}
+use Rattle.script.specs.Services.{short, then_more, marks_after, service_by, service_of}
 use Rattle.script.specs.Words.{spot_by, spot_of}
 
 -- nothing follows a mark that is not there
 pub none_after : (mark : ℕ) (text : List ℕ) → has_mark mark text ≡ false → after_mark mark text ≡ []
 none_after mark text h = drop_all (mark_at mark text + 1) text (omega (arith, ltb-false (mark_at mark text) (length text) h))
 
-no_minor : (major source : Option ℕ) (m : Option Marks) → service_by major None source m ≡ None
-no_minor (Some a) source m = refl
-no_minor None source m = refl
+no_minor : (major source : Option ℕ) → service_by major None source ≡ None
+no_minor (Some a) source = refl
+no_minor None source = refl
 
-no_source : (major minor : Option ℕ) (m : Option Marks) → service_by major minor None m ≡ None
-no_source (Some a) (Some b) m = refl
-no_source (Some a) None m = refl
-no_source None b m = refl
+no_source : (major minor : Option ℕ) → service_by major minor None ≡ None
+no_source (Some a) (Some b) = refl
+no_source (Some a) None = refl
+no_source None b = refl
 
 pub no_hyphen : (text : List ℕ) → has_mark 0x2D text ≡ false → service_of text ≡ None
 no_hyphen text h =
-    ap (λ t. service_by (short (parsed (before_mark 0x2D text))) (short (parsed (before_mark 0x2C t))) (short (parsed (before_mark 0x2C (after_mark 0x2C t)))) (marks_after (after_mark 0x2C t))) (none_after 0x2D text h)
-    ∙ no_minor (short (parsed (before_mark 0x2D text))) None (marks_after [])
+    ap (λ t. then_more (service_by (short (parsed (before_mark 0x2D text))) (short (parsed (before_mark 0x2C t))) (short (parsed (before_mark 0x2C (after_mark 0x2C t))))) (marks_after (after_mark 0x2C t))) (none_after 0x2D text h)
+    ∙ ap (λ o. then_more o (marks_after [])) (no_minor (short (parsed (before_mark 0x2D text))) None)
 
-pub no_comma : (major minor : Option ℕ) (rest : List ℕ) (m : Option Marks) → has_mark 0x2C rest ≡ false
-    → service_by major minor (short (parsed (before_mark 0x2C (after_mark 0x2C rest)))) m ≡ None
-no_comma major minor rest m h =
-    ap (λ t. service_by major minor (short (parsed (before_mark 0x2C t))) m) (none_after 0x2C rest h) ∙ no_source major minor m
+pub no_comma : (major minor : Option ℕ) (rest more : List ℕ) → has_mark 0x2C rest ≡ false
+    → then_more (service_by major minor (short (parsed (before_mark 0x2C (after_mark 0x2C rest))))) (marks_after more) ≡ None
+no_comma major minor rest more h =
+    ap (λ t. then_more (service_by major minor (short (parsed (before_mark 0x2C t)))) (marks_after more)) (none_after 0x2C rest h)
+    ∙ ap (λ o. then_more o (marks_after more)) (no_source major minor)
 
 -- a place that lacks its county, or its part
 no_county : (state part : Option ℕ) → spot_by state None part ≡ None

@@ -53,11 +53,11 @@ begin_refusal s services = refused_by (table_of (kind_of s) services (start_of s
 pub record BeginsWith (s : Settings) (b : Beginning) : Type 0 where
   pub kind : b.kind ≡ kind_of s
   pub start : b.start ≡ start_of s
-  pub state : b.place.state ≡ (spot_of s).state
-  pub county : b.place.county ≡ (spot_of s).county
-  pub part : b.place.part ≡ (spot_of s).part
-  pub path : b.path ≡ given InBand s.path
-  pub clock : b.clock ≡ given 0 s.clock
+  pub state : b.outset.place.state ≡ (spot_of s).state
+  pub county : b.outset.place.county ≡ (spot_of s).county
+  pub part : b.outset.place.part ≡ (spot_of s).part
+  pub path : b.outset.path ≡ given InBand s.path
+  pub clock : b.outset.clock ≡ given 0 s.clock
 
 abbrev pub Begins : Settings → List Service → Result Beginning BeginRefusal → Type 0
 Begins s services (Ok b) = (begin_refusal s services ≡ None) × BeginsWith s b

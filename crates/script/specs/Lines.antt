@@ -1,15 +1,16 @@
 -- What a line asks for. Assumes nothing.
 use Rattle.std.specs.Prelude.{ℕ, Bool, cond, List, length, drop, Some, codes, nat_le}
+use Rattle.std.specs.Option.{option_map_or}
 use Rattle.lines.specs.Ends.{unreturned, is_comment}
 use Rattle.lines.specs.Keys.{after, pairs, put_into}
 use Rattle.script.specs.declared.asked.Asked.{Asked}
 use Rattle.script.specs.declared.asked.Asked.TheVariants.{Nothing, Setting, Begin, Section, Document, Tick, Choose, Unknown}
-use Rattle.script.specs.Words.{or, words_ask}
+use Rattle.script.specs.Words.{words_ask}
 
 -- a text that is no comment, and that may be words or not
 abbrev pub text_asks : Bool → List ℕ → Asked
 text_asks words text =
-    or (after (codes "section=") pairs text) Section (or (after (codes "document=") pairs text) Document (cond words (words_ask text) Unknown))
+    option_map_or Section (after (codes "section=") pairs text) (option_map_or Document (after (codes "document=") pairs text) (cond words (words_ask text) Unknown))
 
 -- a line, of which so many bytes are kept at most: a longer one is a comment, digits or unknown
 abbrev pub line_asks : ℕ → List ℕ → Asked

@@ -13,16 +13,21 @@ use Rattle.script.specs.declared.asked.Setting.{Setting}
 use Rattle.script.specs.declared.asked.Setting.TheVariants as settings
 use Rattle.script.specs.declared.spot.Spot.{Spot}
 use Rattle.script.specs.Parts.{before_mark, after_mark}
+use Rattle.std.specs.Option.{option_map, option_or, unwrap_or}
 use Rattle.script.specs.Services.{service_of}
 
 abbrev pub number_after : List ℕ → List ℕ → Option ℕ
 number_after key text = after key parsed text
 
+-- what a text means if it is the word
+abbrev pub word_of : {X : Type 0} → List ℕ → X → List ℕ → Option X
+word_of word meaning text = cond (bytes_eq text word) (Some meaning) None
+
 abbrev pub set_of : List ℕ → Option SetKind
-set_of text = cond (bytes_eq text (codes "set=bus")) (Some Bus) (cond (bytes_eq text (codes "set=map")) (Some Map) None)
+set_of text = option_or (word_of (codes "set=bus") Bus text) (word_of (codes "set=map") Map text)
 
 abbrev pub path_of : List ℕ → Option Path
-path_of text = cond (bytes_eq text (codes "path=in-band")) (Some InBand) (cond (bytes_eq text (codes "path=out-of-band")) (Some OutOfBand) None)
+path_of text = option_or (word_of (codes "path=in-band") InBand text) (word_of (codes "path=out-of-band") OutOfBand text)
 
 -- three numbers with commas between them
 abbrev pub spot_by : Option ℕ → Option ℕ → Option ℕ → Option Spot
@@ -34,26 +39,21 @@ spot_by None county part = None
 abbrev pub spot_of : List ℕ → Option Spot
 spot_of text = spot_by (parsed (before_mark 0x2C text)) (parsed (before_mark 0x2C (after_mark 0x2C text))) (parsed (after_mark 0x2C (after_mark 0x2C text)))
 
--- what is made of a value if there is one, else something else
-abbrev pub or : {X Y : Type 0} → Option X → (X → Y) → Y → Y
-or None make other = other
-or (Some x) make other = make x
-
-abbrev pub some_setting : {X : Type 0} → (X → Setting) → X → Option Setting
-some_setting make x = Some (make x)
-
+-- the first of these that there is
 abbrev pub setting_of : List ℕ → Option Setting
 setting_of text =
-    or (after (codes "service=") service_of text) (some_setting settings.Service)
-    (or (set_of text) (some_setting settings.Set)
-    (or (number_after (codes "start=") text) (some_setting settings.Start)
-    (or (after (codes "place=") spot_of text) (some_setting settings.Place)
-    (or (path_of text) (some_setting settings.Path)
-    (or (number_after (codes "clock=") text) (some_setting settings.Clock) None)))))
+    option_or (option_or (option_or (option_or (option_or (option_map settings.Service (after (codes "service=") service_of text))
+    (option_map settings.Set (set_of text)))
+    (option_map settings.Start (number_after (codes "start=") text)))
+    (option_map settings.Place (after (codes "place=") spot_of text)))
+    (option_map settings.Path (path_of text)))
+    (option_map settings.Clock (number_after (codes "clock=") text))
 
+-- the first of these that there is, and else it is not understood
 abbrev pub words_ask : List ℕ → Asked
 words_ask text =
-    or (number_after (codes "tick=") text) asked.Tick
-    (or (number_after (codes "choose=") text) asked.Choose
-    (or (setting_of text) asked.Setting
-    (cond (bytes_eq text (codes "begin")) asked.Begin asked.Unknown)))
+    unwrap_or (option_or (option_or (option_or (option_map asked.Tick (number_after (codes "tick=") text))
+    (option_map asked.Choose (number_after (codes "choose=") text)))
+    (option_map asked.Setting (setting_of text)))
+    (word_of (codes "begin") asked.Begin text))
+    asked.Unknown

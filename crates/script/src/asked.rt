@@ -27,7 +27,7 @@ pub enum Asked {
     Nothing,
     Setting(Setting),
     Begin,
-    // a section of so many bytes, and the same for its document
+    // a section of so many bytes, and the same for its document: a number, since it may be longer than the room
     Section(u64),
     Document(u64),
     Tick(u32),

@@ -7,15 +7,13 @@ use crate::asked::SetKind;
 use crate::settings::Settings;
 use crate::spot::Spot;
 use sets::{ChannelMap, TableRefusal};
-use station::{Path, Place, PlaceRefusal, Service};
+use station::{Outset, Path, PlaceRefusal, Service};
 
 #[derive(Clone, Copy, PartialEq, Eq, Debug)]
 pub struct Beginning {
     pub kind: SetKind,
     pub start: usize,
-    pub place: Place,
-    pub path: Path,
-    pub clock: u32,
+    pub outset: Outset,
 }
 
 // Why a receiver does not begin.
@@ -88,8 +86,10 @@ pub fn begin_with(settings: &Settings, services: &[Service]) -> Result<Beginning
     Ok(Beginning {
         kind,
         start,
-        place: spot_of(settings).place()?,
-        path: settings.path.unwrap_or(Path::InBand),
-        clock: settings.clock.unwrap_or(0),
+        outset: Outset {
+            place: spot_of(settings).place()?,
+            path: settings.path.unwrap_or(Path::InBand),
+            clock: settings.clock.unwrap_or(0),
+        },
     })
 }

@@ -1,18 +1,25 @@
 // What the set-up lines settle besides the table of services, each at most once.
-ghost use Rattle.std.specs.Prelude.{◌≡◌};
+ghost use Rattle.std.specs.Prelude.{◌≡◌, Some, None, MatchOption};
 ghost use Rattle.script.specs.Settled.{unsettled, settled};
 
 use crate::asked::{SetKind, Setting};
 use crate::spot::Spot;
 use station::Path;
 
-#[derive(Clone, Copy, Default)]
+#[derive(Clone, Copy, PartialEq, Eq, Debug, Default)]
 pub struct Settings {
     pub kind: Option<SetKind>,
     pub start: Option<u32>,
     pub spot: Option<Spot>,
     pub path: Option<Path>,
     pub clock: Option<u32>,
+}
+
+// What is given, unless something was given before.
+fn once<T: Copy + Drop>(before: Option<T>, given: T) -> Option<T>
+    ensures cases { MatchOption before (result ≡ Some given) (λ _. result ≡ None) }
+{
+    if before.is_some() { None } else { Some(given) }
 }
 
 impl Settings {
@@ -27,30 +34,15 @@ impl Settings {
     pub fn with(self, setting: Setting) -> Option<Settings>
         ensures value { result ≡ settled self setting }
     {
-        // each arm looks at another field and sets it, which no parameter can stand for
+        let mut settings = self;
         match setting {
-            Setting::Service(_) => Some(self),
-            Setting::Set(given) if self.kind.is_none() => Some(Settings {
-                kind: Some(given),
-                ..self
-            }),
-            Setting::Start(given) if self.start.is_none() => Some(Settings {
-                start: Some(given),
-                ..self
-            }),
-            Setting::Place(given) if self.spot.is_none() => Some(Settings {
-                spot: Some(given),
-                ..self
-            }),
-            Setting::Path(given) if self.path.is_none() => Some(Settings {
-                path: Some(given),
-                ..self
-            }),
-            Setting::Clock(given) if self.clock.is_none() => Some(Settings {
-                clock: Some(given),
-                ..self
-            }),
-            _ => None,
+            Setting::Service(_) => {}
+            Setting::Set(given) => settings.kind = Some(once(self.kind, given)?),
+            Setting::Start(given) => settings.start = Some(once(self.start, given)?),
+            Setting::Place(given) => settings.spot = Some(once(self.spot, given)?),
+            Setting::Path(given) => settings.path = Some(once(self.path, given)?),
+            Setting::Clock(given) => settings.clock = Some(once(self.clock, given)?),
         }
+        Some(settings)
     }
 }

@@ -2,7 +2,7 @@
 ghost use Rattle.std.specs.Prelude.{◌≡◌, codes};
 ghost use Rattle.lines.specs.Keys.{after as reading};
 ghost use Rattle.script.specs.Services.{service_of};
-ghost use Rattle.script.specs.Words.{number_after, set_of, path_of, spot_of, setting_of, words_ask};
+ghost use Rattle.script.specs.Words.{number_after, word_of, set_of, path_of, spot_of, setting_of, words_ask};
 
 use crate::asked::{Asked, SetKind, Setting};
 use crate::parts::split_once;
@@ -17,29 +17,27 @@ fn read_number(text: &[u8], key: &[u8]) -> Option<u32>
     parse_number(value_after(text, key)?)
 }
 
-// Here and below by tests: a `match` on the words goes byte by byte, of which the proof did not close.
+// What the text means if it is the word.
+fn read_word<T: Copy + Drop>(text: &[u8], word: &[u8], meaning: T) -> Option<T>
+    ensures value { result ≡ word_of word.now meaning text.now }
+{
+    is_word(text, word).then_some(meaning)
+}
+
 fn read_set(text: &[u8]) -> Option<SetKind>
     ensures value { result ≡ set_of text.now }
 {
-    if is_word(text, b"set=bus") {
-        Some(SetKind::Bus)
-    } else if is_word(text, b"set=map") {
-        Some(SetKind::Map)
-    } else {
-        None
-    }
+    read_word(text, b"set=bus", SetKind::Bus).or(read_word(text, b"set=map", SetKind::Map))
 }
 
 fn read_path(text: &[u8]) -> Option<Path>
     ensures value { result ≡ path_of text.now }
 {
-    if is_word(text, b"path=in-band") {
-        Some(Path::InBand)
-    } else if is_word(text, b"path=out-of-band") {
-        Some(Path::OutOfBand)
-    } else {
-        None
-    }
+    read_word(text, b"path=in-band", Path::InBand).or(read_word(
+        text,
+        b"path=out-of-band",
+        Path::OutOfBand,
+    ))
 }
 
 fn read_place(text: &[u8]) -> Option<Spot>
@@ -64,41 +62,25 @@ fn read_map_service(text: &[u8]) -> Option<Service>
 fn read_setting(text: &[u8]) -> Option<Setting>
     ensures value { result ≡ setting_of text.now }
 {
-    // Of a chain of `map` and `or_else`, here and below, the proof did not close.
-    if let Some(service) = read_map_service(text) {
-        return Some(Setting::Service(service));
-    }
-    if let Some(kind) = read_set(text) {
-        return Some(Setting::Set(kind));
-    }
-    if let Some(number) = read_number(text, b"start=") {
-        return Some(Setting::Start(number));
-    }
-    if let Some(spot) = read_place(text) {
-        return Some(Setting::Place(spot));
-    }
-    if let Some(path) = read_path(text) {
-        return Some(Setting::Path(path));
-    }
-    Some(Setting::Clock(read_number(text, b"clock=")?))
+    let service = read_map_service(text).map(Setting::Service);
+    let set = read_set(text).map(Setting::Set);
+    let start = read_number(text, b"start=").map(Setting::Start);
+    let place = read_place(text).map(Setting::Place);
+    let path = read_path(text).map(Setting::Path);
+    let clock = read_number(text, b"clock=").map(Setting::Clock);
+    service.or(set).or(start).or(place).or(path).or(clock)
 }
 
 // What the words of a line ask for.
 pub(crate) fn read_words(text: &[u8]) -> Asked
     ensures value { result ≡ words_ask text.now }
 {
-    if let Some(number) = read_number(text, b"tick=") {
-        return Asked::Tick(number);
-    }
-    if let Some(number) = read_number(text, b"choose=") {
-        return Asked::Choose(number);
-    }
-    if let Some(setting) = read_setting(text) {
-        return Asked::Setting(setting);
-    }
-    if is_word(text, b"begin") {
-        Asked::Begin
-    } else {
-        Asked::Unknown
-    }
+    let tick = read_number(text, b"tick=").map(Asked::Tick);
+    let choose = read_number(text, b"choose=").map(Asked::Choose);
+    let setting = read_setting(text).map(Asked::Setting);
+    let begin = read_word(text, b"begin", Asked::Begin);
+    tick.or(choose)
+        .or(setting)
+        .or(begin)
+        .unwrap_or(Asked::Unknown)
 }

@@ -3,9 +3,8 @@ use Rattle.std.specs.Prelude.{ℕ, zero, suc, ◌+◌, ◌/◌, ◌%◌, Bool, t
 use Rattle.checkword.specs.Register.{check_register}
 use Rattle.entries.specs.Locations.{state_of, part_of, county_of}
 use Rattle.text.specs.Structure.{structured}
-use Rattle.section.specs.Places.{word, locations_at, check_at, layout_of, nature_of, alert_of, locations_of}
+use Rattle.section.specs.Places.{word, locations_at, check_at, nature_of, alert_of, locations_of}
 use Rattle.section.specs.Values.{seconds_of}
-use Rattle.section.specs.declared.layout.Layout.{Layout}
 use Rattle.section.specs.declared.refusal.SectionRefusal.{SectionRefusal}
 use Rattle.section.specs.declared.refusal.SectionRefusal.TheVariants.{Length, Head, CheckWord, Version, Layout as Lengths, Range, Text}
 
@@ -75,7 +74,3 @@ refusal s = broken s
 abbrev pub or_refused : {A : Type 0} → Option SectionRefusal → A → Result A SectionRefusal
 or_refused None a = Ok a
 or_refused (Some e) a = Err e
-
--- what a reading of the section keeps
-abbrev pub outcome : List ℕ → Result Layout SectionRefusal
-outcome s = or_refused (refusal s) (layout_of s)

@@ -16,11 +16,17 @@ impl<'a> Laid<'a> {
         word_at(self.bytes, self.layout.times + usize::from(past))
     }
 
-    // Four bytes as a number, the first highest: two words, where `from_be_bytes` would ask for four bytes.
+    // Four bytes as a number, the first highest.
     fn start_time(&self) -> StartTime
         ensures value { result ≡ record { 0 = start_of self.now.bytes.now } }
     {
-        StartTime(u32::from(self.timed(1)) * 65536 + u32::from(self.timed(3)))
+        let at = self.layout.times + 1;
+        StartTime(u32::from_be_bytes([
+            byte_at(self.bytes, at),
+            byte_at(self.bytes, at + 1),
+            byte_at(self.bytes, at + 2),
+            byte_at(self.bytes, at + 3),
+        ]))
     }
 
     // All the numbers.

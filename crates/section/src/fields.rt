@@ -8,11 +8,11 @@ pub struct SequenceNumber(pub u8);
 #[derive(Clone, Copy, PartialEq, Eq, Debug)]
 pub struct EventId(pub u16);
 
-// how long an alert still lasts
+// how long an alert still lasts; 0 for no end, as it is sent
 #[derive(Clone, Copy, PartialEq, Eq, Debug)]
 pub struct Seconds(pub u8);
 
-// seconds since the start of 6 January 1980, or 0 for an event that is on
+// seconds since the start of 6 January 1980, or 0 for an event that is on, as it is sent
 #[derive(Clone, Copy, PartialEq, Eq, Debug)]
 pub struct StartTime(pub u32);
 

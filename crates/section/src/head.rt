@@ -1,7 +1,7 @@
-// The head of a section, its first nine bytes.
-ghost use Rattle.std.specs.Prelude.{◌≡◌, ◌+◌, ◌*◌, ◌/◌, ◌%◌, ◌<◌, ◌≤◌, length, slice_index, MatchOption};
+// The head of a section, its first nine bytes, and the body after it.
+ghost use Rattle.std.specs.Prelude.{◌≡◌, ◌+◌, ◌*◌, ◌/◌, ◌%◌, ◌<◌, ◌≤◌, length, drop, slice_index, MatchOption};
 
-// The numbers of the head, and the bytes that state them.
+// The numbers of the head, the bytes that state them, and those that follow.
 #[derive(Clone, Copy)]
 pub struct Head<'a> {
     pub bytes: &'a [u8],
@@ -14,6 +14,7 @@ pub struct Head<'a> {
     pub section_number: u8,
     pub last_section_number: u8,
     pub protocol_version: u8,
+    pub body: &'a [u8],
     ghost long: { 9 ≤ length bytes.now },
     ghost table: { table_id ≡ slice_index bytes.now 0 },
     ghost form: { syntax ≡ slice_index bytes.now 1 / 64 },
@@ -23,13 +24,13 @@ pub struct Head<'a> {
     ghost first: { section_number ≡ slice_index bytes.now 6 },
     ghost last: { last_section_number ≡ slice_index bytes.now 7 },
     ghost version: { protocol_version ≡ slice_index bytes.now 8 },
+    ghost rest: { body.now ≡ drop 9 bytes.now },
 }
 
-// The head, where there are nine bytes.
+// The head and the body, where there are nine bytes.
 pub(crate) fn split_head(bytes: &[u8]) -> Option<Head<'_>>
     ensures cases { MatchOption result (length bytes.now < 9) (λ h. h.bytes.now ≡ bytes.now) }
 {
-    let head = bytes.first_chunk::<9>()?;
     let [
         table_id,
         length_high,
@@ -40,16 +41,21 @@ pub(crate) fn split_head(bytes: &[u8]) -> Option<Head<'_>>
         section_number,
         last_section_number,
         protocol_version,
-    ] = *head;
+        body @ ..,
+    ] = bytes
+    else {
+        return None;
+    };
     Some(Head {
         bytes,
-        table_id,
-        syntax: length_high / 64,
-        section_length: u16::from_be_bytes([length_high % 16, length_low]),
-        extension: u16::from_be_bytes([extension_high, extension_low]),
-        current: version % 2,
-        section_number,
-        last_section_number,
-        protocol_version,
+        table_id: *table_id,
+        syntax: *length_high / 64,
+        section_length: u16::from_be_bytes([*length_high % 16, *length_low]),
+        extension: u16::from_be_bytes([*extension_high, *extension_low]),
+        current: *version % 2,
+        section_number: *section_number,
+        last_section_number: *last_section_number,
+        protocol_version: *protocol_version,
+        body,
     })
 }

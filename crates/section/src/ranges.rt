@@ -4,28 +4,23 @@ ghost use Rattle.section.specs.Rules.{located, all_located, bounded, ranged};
 
 use super::bytes::part_of;
 use super::laid::Laid;
-use octets::{after, byte_at, ten_bits};
+use entries::Location;
+use octets::{after, byte_at};
 
 // One location entry, at the front.
 fn is_located(entry: &[u8]) -> bool
     ensures value { result ≡ located entry.now }
 {
-    byte_at(entry, 0) <= 99 && byte_at(entry, 1) / 16 <= 9 && ten_bits(entry, 1) <= 999
+    let location = Location::read(entry);
+    location.state <= 99 && location.part <= 9 && location.county <= 999
 }
 
 // So many location entries, one after another.
 fn all_located(count: u8, entries: &[u8]) -> bool
     ensures value { result ≡ all_located count entries.now }
 {
-    let mut rest = entries;
-    // Entries past the bytes are zeros, and count: over `chunks` a line would have to say why they are in range.
-    for _ in 0..count {
-        if !is_located(rest) {
-            return false;
-        }
-        rest = after(rest, 3);
-    }
-    true
+    // By number and not by `chunks`: entries past the bytes are zeros, and count.
+    (0..usize::from(count)).all(|k| is_located(after(entries, 3 * k)))
 }
 
 // The alert's seconds and the number of its location entries.

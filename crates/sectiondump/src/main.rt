@@ -5,7 +5,7 @@ mod input;
 mod print;
 
 use input::{Asked, ROOM};
-use lines::LineBuffer;
+use lines::{LineBuffer, value_in};
 use print::Heading;
 use records::Record;
 use section::{Section, SectionRefusal};
@@ -35,8 +35,7 @@ fn answer(
                 number: section,
                 size,
             };
-            let held = usize::try_from(size).ok().and_then(|size| room.get(..size));
-            match held {
+            match value_in(room, size) {
                 Some(bytes) => print::section(out, heading, &Section::read(bytes)),
                 None => print::refused(out, heading, SectionRefusal::Length),
             }

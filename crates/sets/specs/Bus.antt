@@ -1,5 +1,6 @@
 -- The studio bus. Assumes nothing.
-use Rattle.std.specs.Prelude.{ℕ, zero, suc, ◌+◌, false, List, [], ◌∷◌}
+use Rattle.std.specs.Prelude.{ℕ, zero, suc, ◌+◌, List, [], ◌∷◌}
+use Rattle.station.specs.Services.{unmarked}
 use Rattle.station.specs.declared.service.Service.{Service}
 use Rattle.sets.specs.declared.bus.StudioBus.{StudioBus}
 use Rattle.sets.specs.declared.sound.Sound.TheVariants.{Own}
@@ -8,14 +9,7 @@ use Rattle.sets.specs.Meaning.{Meaning}
 
 -- input k has the pair (k + 1, 0), no source ID and no marks
 abbrev pub input : ℕ → Service
-input k =
-    record {
-      source = record { 0 = 0 };
-      channel = record { major = k + 1; minor = 0 };
-      controlled = false;
-      paid = false;
-      apart = false;
-    }
+input k = unmarked (record { 0 = 0 }) (record { major = k + 1; minor = 0 })
 
 -- so many inputs, from a number on
 abbrev pub inputs : ℕ → ℕ → List Service

@@ -1,5 +1,6 @@
 -- The channel map. Assumes nothing.
-use Rattle.std.specs.Prelude.{ℕ, false, List, [], ◌∷◌, Some, None, Option}
+use Rattle.std.specs.Prelude.{ℕ, List, [], ◌∷◌, Some, None, Option}
+use Rattle.station.specs.Services.{unmarked}
 use Rattle.station.specs.declared.service.Service.{Service}
 use Rattle.sets.specs.declared.map.ChannelMap.{ChannelMap}
 use Rattle.sets.specs.declared.refusal.TableRefusal.{TableRefusal}
@@ -10,14 +11,7 @@ use Rattle.sets.specs.Tables.{table_refusal}
 
 -- a service with no pair, ID or marks
 abbrev pub bare : Service
-bare =
-    record {
-      source = record { 0 = 0 };
-      channel = record { major = 0; minor = 0 };
-      controlled = false;
-      paid = false;
-      apart = false;
-    }
+bare = unmarked (record { 0 = 0 }) (record { major = 0; minor = 0 })
 
 abbrev pub map_meaning : ChannelMap → Meaning
 map_meaning m = record { services = m.table.now; shown = m.shown; sound = m.sound; caption = held m.caption }

@@ -1,3 +1,4 @@
 pub mod Ranges
 pub mod Names
 pub mod Refusals
+pub mod Services

@@ -5,7 +5,7 @@ ghost use Rattle.station.specs.declared.refusal.PlaceRefusal.TheVariants.{Range}
 
 use super::refusal::PlaceRefusal;
 
-// A part of 0 is not known.
+// A part of 0 is not known, and agrees with every part: an option would ask for two tests where this is one.
 #[derive(Clone, Copy, PartialEq, Eq, Debug)]
 pub struct Place {
     pub state: u8,

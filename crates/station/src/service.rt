@@ -1,6 +1,7 @@
 // Services and what names them.
 ghost use Rattle.std.specs.Prelude.{◌≡◌};
 ghost use Rattle.station.specs.Names.{is_pair, is_id};
+ghost use Rattle.station.specs.Services.{unmarked};
 
 // 0 for none, as it is sent: an option would have to be made and taken apart wherever it is read or printed.
 #[derive(Clone, Copy, PartialEq, Eq, Debug)]
@@ -48,4 +49,19 @@ pub struct Service {
     pub paid: bool,
     // its sound can be heard without leaving the picture
     pub apart: bool,
+}
+
+impl Service {
+    // Neither controlled nor paid, nor to be heard apart.
+    pub fn unmarked(source: SourceId, channel: ChannelPair) -> Service
+        ensures value { result ≡ unmarked source channel }
+    {
+        Service {
+            source,
+            channel,
+            controlled: false,
+            paid: false,
+            apart: false,
+        }
+    }
 }

@@ -24,7 +24,7 @@ impl TextRefusal {
     }
 
     // The cause in a few words.
-    fn cause(self) -> &'static str
+    pub fn cause(self) -> &'static str
         ensures value { result.now ≡ words self }
     {
         match self {

@@ -59,7 +59,8 @@ impl<'a, P: Parts<'a>> Run<'a, P> {
         ensures value { result.now ≡ after_all P.after self.entry.left self.entry.rest.now }
     {
         let mut rest = self.rest;
-        // A step is taken so many times; no turn has a number that is asked for.
+        // A step is taken so many times. Here and below, a `fold` was tried: the borrow checker does not cover a call
+        // of `Parts<'a>` in a closure.
         for _ in 0..self.left {
             rest = P::skip(rest);
         }
@@ -71,7 +72,6 @@ impl<'a, P: Parts<'a>> Run<'a, P> {
         ensures value { option_map (λ x. x.now) result ≡ past_all P.past self.entry.left self.entry.rest.now }
     {
         let mut rest = self.rest;
-        // So many times, as above.
         for _ in 0..self.left {
             rest = P::past(rest)?;
         }

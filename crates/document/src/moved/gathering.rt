@@ -26,12 +26,12 @@ fn gather_part(area: &[u8], work: &mut [u8]) -> Result<Gathered, DocumentRefusal
     ensures cases { Gathers (document_of area.now) work.old result work.new }
 {
     let gathering = walk(area).ok_or(DocumentRefusal::Unended)?;
-    let fragments = gathering.bound()?;
-    let size = total(fragments);
+    let slots = gathering.bound()?;
+    let size = total(slots);
     if work.len() < size {
         return Err(DocumentRefusal::Short);
     }
-    write(fragments, work);
+    write(slots, work);
     Ok(Gathered { size })
 }
 

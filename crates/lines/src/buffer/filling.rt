@@ -3,8 +3,8 @@ ghost use Rattle.std.specs.Prelude.{◌≡◌, [], ◌++◌, MatchResult};
 ghost use Rattle.lines.specs.Held.{Holds, OfLine, Takes};
 
 use crate::buffer::{LineBuffer, Taken};
-use crate::marks::mark_at;
 use crate::tail::Tail;
+use memchr::memchr;
 use std::alloc::{AllocError, Global};
 
 impl LineBuffer {
@@ -49,10 +49,11 @@ impl LineBuffer {
         ensures cases { Takes self.old self.new held.now result }
         ensures same { self.new.most ≡ self.old.most }
     {
-        let end = mark_at(held, b'\n');
-        let ended = end < held.len();
-        let count = if ended { end + 1 } else { end };
-        self.keep(&held[0..end])?;
+        let (piece, count, ended) = match memchr(b'\n', held) {
+            Some(end) => (&held[..end], end + 1, true),
+            None => (held, held.len(), false),
+        };
+        self.keep(piece)?;
         Ok(Taken { count, ended })
     }
 }

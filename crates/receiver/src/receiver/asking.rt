@@ -1,9 +1,8 @@
 // What can be asked of a receiver.
-ghost use Rattle.std.specs.Prelude.{◌≡◌, List};
-ghost use Rattle.history.specs.Histories.{Event, Start};
+ghost use Rattle.std.specs.Prelude.{◌≡◌};
 ghost use Rattle.history.specs.Forces.{EventInForce};
 ghost use Rattle.history.specs.Viewers.{Home};
-ghost use Rattle.receiver.specs.Stood.{Stood};
+ghost use Rattle.receiver.specs.Stood.{WhateverCame};
 
 use super::Receiver;
 use section::EventId;
@@ -12,14 +11,14 @@ use sets::Set;
 impl<S: Set> Receiver<S> {
     // The viewer's service.
     pub fn home(&self) -> usize
-        ensures the_viewers_service { (s : Start) (h : List Event) → Stood S.meaning s h self.now → Home s h result }
+        ensures the_viewers_service { WhateverCame S.meaning self.now (λ s h. Home s h result) }
     {
         self.state.home
     }
 
     // The event ID of the alert in force.
     pub fn event_in_force(&self) -> Option<EventId>
-        ensures of_the_alert_in_force { (s : Start) (h : List Event) → Stood S.meaning s h self.now → EventInForce s h result }
+        ensures of_the_alert_in_force { WhateverCame S.meaning self.now (λ s h. EventInForce s h result) }
     {
         self.state.alert.as_ref().map(|alert| alert.event_id)
     }

@@ -7,7 +7,7 @@ ghost use Rattle.receiver.specs.Stood.{began, Stood};
 use super::Receiver;
 use history::State;
 use sets::Set;
-use station::{Path, Place};
+use station::Outset;
 
 // The picture's own sound and an empty caption.
 fn quiet<S: Set>(set: &mut S)
@@ -19,13 +19,14 @@ fn quiet<S: Set>(set: &mut S)
 
 impl<S: Set> Receiver<S> {
     // Takes the set as it is found, gives it its own sound and an empty caption, and makes the service
-    // shown the viewer's. Place, path and clock are not one struct: each caller would have to make it.
-    pub fn begin(set: S, place: Place, path: Path, clock: u32) -> Receiver<S>
-        ensures stands { Stood S.meaning (began place path clock (S.meaning set)) [] result }
-        ensures the_set_shows_what_the_calls_ask { Law (began place path clock (S.meaning set)) [] (S.meaning result.set) }
+    // shown the viewer's.
+    pub fn begin(set: S, outset: Outset) -> Receiver<S>
+        ensures stands { Stood S.meaning (began outset (S.meaning set)) [] result }
+        ensures the_set_shows_what_the_calls_ask { Law (began outset (S.meaning set)) [] (S.meaning result.set) }
     {
         let mut set = set;
         quiet(&mut set);
+        let Outset { place, path, clock } = outset;
         let state = State {
             place,
             path,

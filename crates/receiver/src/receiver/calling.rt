@@ -1,8 +1,8 @@
 // The three calls.
-ghost use Rattle.std.specs.Prelude.{◌≡◌, List, OnErr};
-ghost use Rattle.history.specs.Histories.{Event, sent, told, chose, Start};
+ghost use Rattle.std.specs.Prelude.{◌≡◌, OnErr};
+ghost use Rattle.history.specs.Histories.{sent, told, chose};
 ghost use Rattle.history.specs.Replies.{Answers, Reads, Chooses};
-ghost use Rattle.receiver.specs.Stood.{Stood, GoesOn, Shows, Spares};
+ghost use Rattle.receiver.specs.Stood.{WhateverCame, GoesOn, Shows, Spares};
 
 use super::Receiver;
 use crate::judge::judge;
@@ -19,7 +19,7 @@ impl<S: Set> Receiver<S> {
     pub fn section(&mut self, bytes: &[u8]) -> Result<Answer, SectionRefusal>
         ensures stands { GoesOn S.meaning (sent bytes.now) self.old self.new }
         ensures the_set_shows_what_the_calls_ask { Shows S.meaning (sent bytes.now) self.old self.new }
-        ensures the_calls_before_determine_the_answer { (s : Start) (h : List Event) → Stood S.meaning s h self.old → Answers s h bytes.now result }
+        ensures the_calls_before_determine_the_answer { WhateverCame S.meaning self.old (λ s h. Answers s h bytes.now result) }
         ensures a_refusal_changes_nothing { OnErr result (self.new ≡ self.old) }
         ensures a_set_that_shows_it_is_spared { Spares S.meaning (sent bytes.now) self.old self.new }
     {
@@ -40,7 +40,7 @@ impl<S: Set> Receiver<S> {
     pub fn reading(&mut self, seconds: u32) -> Result<(), ReadingRefusal>
         ensures stands { GoesOn S.meaning (told seconds) self.old self.new }
         ensures the_set_shows_what_the_calls_ask { Shows S.meaning (told seconds) self.old self.new }
-        ensures the_calls_before_determine_the_answer { (s : Start) (h : List Event) → Stood S.meaning s h self.old → Reads s h seconds result }
+        ensures the_calls_before_determine_the_answer { WhateverCame S.meaning self.old (λ s h. Reads s h seconds result) }
         ensures a_refusal_changes_nothing { OnErr result (self.new ≡ self.old) }
         ensures a_set_that_shows_it_is_spared { Spares S.meaning (told seconds) self.old self.new }
     {
@@ -53,7 +53,7 @@ impl<S: Set> Receiver<S> {
     pub fn choice(&mut self, number: usize) -> Result<(), ChoiceRefusal>
         ensures stands { GoesOn S.meaning (chose number) self.old self.new }
         ensures the_set_shows_what_the_calls_ask { Shows S.meaning (chose number) self.old self.new }
-        ensures the_calls_before_determine_the_answer { (s : Start) (h : List Event) → Stood S.meaning s h self.old → Chooses s number result }
+        ensures the_calls_before_determine_the_answer { WhateverCame S.meaning self.old (λ s h. Chooses s number result) }
         ensures a_refusal_changes_nothing { OnErr result (self.new ≡ self.old) }
         ensures a_set_that_shows_it_is_spared { Spares S.meaning (chose number) self.old self.new }
     {

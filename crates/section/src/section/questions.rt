@@ -38,7 +38,8 @@ impl<'a> Section<'a> {
         })
     }
 
-    // The nature text as it stands in the section.
+    // The nature text as it stands in the section. This and the four below differ in the part alone: a function
+    // over a closure that picks it would be no shorter, and say less.
     pub fn nature(&self) -> Result<Part<'a>, SectionRefusal>
         ensures { Hands self.now.bytes.now (nature_at self.now.bytes.now + 1) (nature_of self.now.bytes.now) result }
     {

@@ -17,16 +17,11 @@ fn input_of(number: usize) -> Service
     requires { number < 16 }
     ensures value { result ≡ input number }
 {
-    Service {
-        source: SourceId(0),
-        channel: ChannelPair {
-            major: number as u16 + 1,
-            minor: 0,
-        },
-        controlled: false,
-        paid: false,
-        apart: false,
-    }
+    let channel = ChannelPair {
+        major: number as u16 + 1,
+        minor: 0,
+    };
+    Service::unmarked(SourceId(0), channel)
 }
 
 impl StudioBus {

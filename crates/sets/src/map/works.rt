@@ -10,7 +10,7 @@ use crate::set::{Set, Shows};
 use crate::sound::Sound;
 use station::{ChannelPair, Service, SourceId};
 
-// What a map lists that was made on a table that is refused.
+// What a map lists that was made on a table that is refused. A literal, since a static makes no call.
 static BARE: [Service; 1] = [Service {
     source: SourceId(0),
     channel: ChannelPair { major: 0, minor: 0 },

@@ -5,5 +5,5 @@ use Rattle.document.proofs.binding.total.Goals as goal
 
 pub returns : goal.returns
 returns c =
-    let e : c.sum.result ≡ sum_by (λ p. length (placed_bytes p)) c.args.fragments.now = search rules in
-    record { value = e ∙ sym (length-flat_map placed_bytes c.args.fragments.now) }
+    let e : c.sum.result ≡ sum_by (λ s. length (placed_bytes s)) c.args.slots.now = search rules in
+    record { value = e ∙ sym (length-flat_map placed_bytes c.args.slots.now) }

@@ -13,5 +13,5 @@ returns-in_ok-value_after-2-clause-value c =
     let long : most < length text = leb-false (length text) most (sym (c.if-is_whole.ensures.held text holds)) in
     let bytes = c.bytes-else-is_whole.ensures.held text holds in
     let there = c.in_ok-value_after-2.ensures.cases in
-    c.long_size.ensures.value text holds (length key) long small k (there.1 ∙ ap (drop (length key)) bytes)
+    c.long_size.ensures.value text holds small (length key) long k (there.1 ∙ ap (drop (length key)) bytes)
     ∙ ap (λ t. cond t (pairs (drop (length key) (unreturned text))) None) (sym there.0 ∙ ap (begins key) bytes ∙ key_in_first text key most long k)

@@ -2,11 +2,11 @@ use Rattle.std.proofs.Common.{◌+◌, List, [], ◌∷◌, ◌++◌, map, lengt
 use lib.ListN.{length-map}
 use Rattle.std.proofs.lemmas.List.{length_push, drop-set-lt}
 use Rattle.calls.specs.declared.reply.Reply.{Reply}
-use Rattle.history.specs.Histories.{Event, Start, event_at}
+use Rattle.history.specs.Histories.{Event, event_at}
 use Rattle.history.specs.Replies.{event, Replies}
 use Rattle.history.proofs.Running.{event_of, take_one_more, one_more, all_made, Upto, upto_set, upto_past, upto_push}
 use Rattle.history.proofs.Turns.{lawful_run}
-use Rattle.receiver.specs.Stood.{Stood}
+use Rattle.receiver.specs.Stood.{Stood, WhateverCame}
 use Rattle.receiver.specs.Watched.{Shown}
 use Rattle.receiver.proofs.Showings.{one_more_shown}
 use Rattle.receiver.proofs.runs.carry_on.Goals as goal
@@ -21,7 +21,7 @@ loop-i-preserved g c =
     let l = c.loop-i-test.true in
     let r = c.make_call-reply.result in
     let old = c.loop-i.invariant in
-    let new : (s : Start) (h : List Event) → Stood mean s h c.args.receiver.now → Replies s (h ++ take i events) (event_at events i) r =
+    let new : WhateverCame mean c.args.receiver.now (λ s h. Replies s (h ++ take i events) (event_at events i) r) =
     λ s h x. subst (λ (e : Event). Replies s (h ++ take i events) e r) (sym (event_of i calls _ l)) (c.make_call-reply.ensures.the_calls_before_determine_the_reply s (h ++ take i events) (old.0 s h x)) in
     let seen = old.3 in
     let long = length_push seen.0 r in
@@ -55,7 +55,7 @@ returns g c =
     let many = length-map calls event in
     let end = c.loop-i.invariant in
     let n = end.3.1 in
-    let on : (s : Start) (h : List Event) → Stood mean s h c.args.receiver.now → Stood mean s (h ++ events) c.loop-i.receiver =
+    let on : WhateverCame mean c.args.receiver.now (λ s h. Stood mean s (h ++ events) c.loop-i.receiver) =
     λ s h x. subst (λ (z : List Event). Stood mean s z c.loop-i.receiver) (all_made h i calls left) (end.0 s h x) in
     record {
       stands = on;

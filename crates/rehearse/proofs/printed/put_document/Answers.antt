@@ -1,4 +1,4 @@
-use Rattle.std.proofs.Common.{◌++◌, length, vec_items, codes}
+use Rattle.std.proofs.Common.{◌++◌, length, codes}
 use Rattle.rehearse.specs.Printed.{numbered}
 use Rattle.rehearse.proofs.Joining.{joined, ended}
 use Rattle.rehearse.proofs.printed.put_document.Goals as goal
@@ -7,5 +7,4 @@ pub returns : goal.returns
 returns c =
     let bytes = c.args.bytes.now in
     joined (numbered (codes "call=document bytes=") (length bytes)) (bytes ++ codes "\n") _ _ _ _ c.in_ok-put_numbered.ensures
-    (ended bytes (codes "\n") (vec_items c.put_numbered.new.out.held) (vec_items c.text.new.self.held) c.text-2.result (vec_items c.text-2.new.self.held)
-    c.in_ok-text.ensures c.text-2.ensures)
+    (ended bytes (codes "\n") _ _ _ _ c.in_ok-text.ensures c.text-2.ensures)

@@ -11,5 +11,5 @@ returns-in_err-minor c =
     let rest : c.in_ok-major.rest.now ≡ after_mark 0x2D c.args.text.now = c.in_ok-major.ensures.cases.2 in
     record {
       value = c.from_residual-in_err-minor.ensures
-          ∙ sym (no_comma _ _ (after_mark 0x2D c.args.text.now) _ (subst (λ r. has_mark 0x2C r ≡ false) rest c.in_err-minor.ensures.cases));
+          ∙ sym (no_comma _ _ (after_mark 0x2D c.args.text.now) (after_mark 0x2C (after_mark 0x2D c.args.text.now)) (subst (λ r. has_mark 0x2C r ≡ false) rest c.in_err-minor.ensures.cases));
     }
