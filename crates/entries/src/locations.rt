@@ -7,7 +7,8 @@ use super::entry::Entry;
 use octets::{byte_at, ten_bits};
 use station::Place;
 
-// What a location entry states; 0 stands for all states, all counties, all parts, as it is sent.
+// What a location entry states; 0 stands for all states, all counties, all parts, as it is sent: an option would have to be
+// made and taken apart wherever one is printed.
 #[derive(Clone, Copy, PartialEq, Eq, Debug)]
 pub struct Location {
     pub state: u8,

@@ -1,6 +1,6 @@
 // The lines of the script, and the answers to them.
 ghost use Rattle.std.specs.Prelude.{◌≡◌, ◌+◌, ◌-◌, ◌^◌, min, IfOk, OnOk, codes};
-ghost use Rattle.rehearse.specs.Exchanges.{AllWritten, WritesAll};
+ghost use Rattle.rehearse.specs.Exchanges.{NothingWaits, WritesAll};
 ghost use Rattle.rehearse.specs.Printed.{numbered};
 ghost use Rattle.rehearse.specs.Told.{Empty, Tells};
 
@@ -45,7 +45,7 @@ impl Exchange {
     }
 
     pub fn not_understood(&mut self) -> io::Result<()>
-        ensures written { OnOk result (AllWritten self.new) }
+        ensures written { OnOk result (NothingWaits self.new) }
         ensures same { self.new.input ≡ self.old.input }
     {
         self.print_not_understood();
@@ -60,7 +60,7 @@ impl Exchange {
     ) -> io::Result<()>
         requires callable { F.IsAlwaysCallable answer }
         requires written { WritesAll F.FnMut }
-        ensures { AllWritten self.old → OnOk result (AllWritten self.new) }
+        ensures { NothingWaits self.old → OnOk result (NothingWaits self.new) }
     {
         answer(self, first)?;
         // a script may have no end, so that no measure falls in a `while let`

@@ -1,7 +1,9 @@
 // The lines of the script, one after another.
-ghost use Rattle.std.specs.Prelude.{◌≡◌, ◌+◌, ◌-◌, ◌^◌, min, take, IfOk};
+ghost use Rattle.std.specs.Prelude.{◌≡◌, ◌+◌, ◌-◌, ◌^◌, ◌≤◌, min, take, IfOk, IfSome};
 ghost use Rattle.std.specs.Io.Buffered.{reader_buffer};
 ghost use Rattle.lines.specs.Ends.{has_feed};
+ghost use Rattle.lines.specs.Held.{OfCountedLine};
+ghost use Rattle.script.specs.Lines.{line_asks};
 
 use lines::{LineBuffer, value_in};
 use script::{Asked, read_line};
@@ -45,7 +47,8 @@ impl Input {
 
     // What the next line asks for; none at the end of the script.
     pub fn next(&mut self) -> io::Result<Option<Asked>>
-        ensures { self.new.number ≡ min (2 ^ 64 - 1) (self.old.number + 1) }
+        ensures number { self.new.number ≡ min (2 ^ 64 - 1) (self.old.number + 1) }
+        ensures asked { IfOk result (λ next. IfSome next (λ asked. OfCountedLine self.new.line (λ text. 9 ≤ self.new.line.most → asked ≡ line_asks self.new.line.most text))) }
     {
         self.number = self.number.saturating_add(1);
         if lines::next_line(&mut self.reader, &mut self.line)? {

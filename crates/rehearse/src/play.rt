@@ -4,7 +4,7 @@ ghost use Rattle.std.specs.Option.{option_map};
 ghost use Rattle.history.specs.Replies.{event, Replies};
 ghost use Rattle.receiver.specs.Stood.{WhateverCame, GoesOn, Shows as SetShows};
 ghost use Rattle.rehearse.specs.Calling.{asked_call};
-ghost use Rattle.rehearse.specs.Exchanges.{AllWritten};
+ghost use Rattle.rehearse.specs.Exchanges.{NothingWaits};
 ghost use Rattle.rehearse.specs.Told.{TellsAnswer, TellsReply};
 
 use crate::documents::deliver_document;
@@ -71,7 +71,7 @@ fn answer<S: Shows>(
     ensures stands { MatchOption (asked_call exchange.old.input.room asked) (receiver.new ≡ receiver.old) (λ e. GoesOn S.Set.meaning e receiver.old receiver.new) }
     ensures the_set_shows_what_the_call_asks { IfSome (asked_call exchange.old.input.room asked) (λ e. SetShows S.Set.meaning e receiver.old receiver.new) }
     ensures same { exchange.new.input ≡ exchange.old.input }
-    ensures written { AllWritten exchange.old → OnOk result (AllWritten exchange.new) }
+    ensures written { NothingWaits exchange.old → OnOk result (NothingWaits exchange.new) }
 {
     take(exchange, receiver, asked);
     exchange.output.write()
@@ -83,7 +83,7 @@ fn go_on<S: Shows>(
     receiver: &mut Receiver<S>,
     first: Asked,
 ) -> io::Result<()>
-    ensures { OnOk result (AllWritten exchange.new) }
+    ensures { OnOk result (NothingWaits exchange.new) }
 {
     exchange.output.printer.begun(receiver);
     exchange.output.write()?;
@@ -97,7 +97,7 @@ pub fn play<S: Shows + Drop>(
     outset: Outset,
     first: Asked,
 ) -> io::Result<()>
-    ensures { OnOk result (AllWritten exchange.new) }
+    ensures { OnOk result (NothingWaits exchange.new) }
 {
     let mut receiver = rehearse(
         set,
@@ -113,7 +113,7 @@ pub fn play<S: Shows + Drop>(
 
 // After a refused begin no line is understood but comments.
 pub fn ignore(exchange: &mut Exchange, refusal: BeginRefusal, first: Asked) -> io::Result<()>
-    ensures { OnOk result (AllWritten exchange.new) }
+    ensures { OnOk result (NothingWaits exchange.new) }
 {
     exchange.output.printer.begin_refused(refusal);
     exchange.output.write()?;

@@ -2,7 +2,7 @@
 ghost use Rattle.std.specs.Prelude.{◌≡◌, ◌≤◌, [], length, is_some, OnOk, IfOk, IfSome};
 ghost use Rattle.script.specs.Begins.{given};
 ghost use Rattle.script.specs.Settled.{settled, unsettled};
-ghost use Rattle.rehearse.specs.Exchanges.{AllWritten, EndsSetup};
+ghost use Rattle.rehearse.specs.Exchanges.{NothingWaits, EndsSetup};
 ghost use Rattle.rehearse.specs.Setups.{table_after};
 
 use crate::exchange::Exchange;
@@ -63,7 +63,7 @@ impl Setup {
     pub fn take_lines(&mut self, exchange: &mut Exchange) -> io::Result<Option<Asked>>
         ensures asked { IfOk result (λ asked. IfSome asked EndsSetup) }
         ensures bound { length self.old.table.items ≤ 257 → OnOk result (length self.new.table.items ≤ 257) }
-        ensures written { AllWritten exchange.old → OnOk result (AllWritten exchange.new) }
+        ensures written { NothingWaits exchange.old → OnOk result (NothingWaits exchange.new) }
     {
         // a script may have no end, so that no measure falls in a `while let`
         for _ in 0..u64::MAX {

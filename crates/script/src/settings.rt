@@ -19,7 +19,7 @@ pub struct Settings {
 fn once<T: Copy + Drop>(before: Option<T>, given: T) -> Option<T>
     ensures cases { MatchOption before (result ≡ Some given) (λ _. result ≡ None) }
 {
-    if before.is_some() { None } else { Some(given) }
+    before.is_none().then_some(given)
 }
 
 impl Settings {

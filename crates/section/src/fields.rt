@@ -1,4 +1,5 @@
-// The numbers of a section, each of a type of its own so that kinds cannot cross.
+// The numbers of a section, each of a type of its own so that kinds cannot cross. Where 0 stands for none it stays 0, as it
+// is sent: an option would have to be made and taken apart wherever the number is printed.
 use station::{ChannelPair, SourceId};
 
 // 5 bits
@@ -8,15 +9,15 @@ pub struct SequenceNumber(pub u8);
 #[derive(Clone, Copy, PartialEq, Eq, Debug)]
 pub struct EventId(pub u16);
 
-// how long an alert still lasts; 0 for no end, as it is sent
+// how long an alert still lasts; 0 for no end
 #[derive(Clone, Copy, PartialEq, Eq, Debug)]
 pub struct Seconds(pub u8);
 
-// seconds since the start of 6 January 1980, or 0 for an event that is on, as it is sent
+// seconds since the start of 6 January 1980, or 0 for an event that is on
 #[derive(Clone, Copy, PartialEq, Eq, Debug)]
 pub struct StartTime(pub u32);
 
-// how long an event lasts
+// how long an event lasts; 0 for unknown
 #[derive(Clone, Copy, PartialEq, Eq, Debug)]
 pub struct Minutes(pub u16);
 

@@ -31,6 +31,7 @@ pub struct Head<'a> {
 pub(crate) fn split_head(bytes: &[u8]) -> Option<Head<'_>>
     ensures cases { MatchOption result (length bytes.now < 9) (λ h. h.bytes.now ≡ bytes.now) }
 {
+    // One pattern for the nine bytes and what follows them: by `split_first_chunk` they would be two.
     let [
         table_id,
         length_high,

@@ -133,6 +133,7 @@ fn locations(out: &mut Record, bytes: &[u8]) -> Result<(), AllocError> {
     Ok(())
 }
 
+// As the locations, by fives: one function for both would need a closure for what it prints of an entry.
 fn exceptions(out: &mut Record, bytes: &[u8]) -> Result<(), AllocError> {
     let (entries, _) = bytes.as_chunks::<5>();
     for entry in entries {

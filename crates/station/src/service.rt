@@ -24,7 +24,7 @@ impl SourceId {
 }
 
 impl ChannelPair {
-    // Whether it is that very pair, and is one at all.
+    // Whether it is that very pair, and is one at all. A trait over this and the one above would be longer than both.
     pub fn names(self, pair: ChannelPair) -> bool
         ensures value { result ≡ is_pair self pair }
     {

@@ -1,5 +1,4 @@
 use Rattle.std.proofs.Common.{[], length, ap, arith}
-use Rattle.std.proofs.lemmas.List.{take_all}
 use Rattle.std.proofs.lemmas.List.Folds.{length-flat_map-take}
 use Rattle.document.specs.Tables.{empty, placed_bytes}
 use Rattle.document.proofs.Escapes.{put_on}
@@ -16,8 +15,3 @@ loop-slot-preserved c =
     let y = c.bytes.ensures.value in
     let l = ap length y in
     (omega arith, cc)
-
-pub returns : goal.returns
-returns c =
-    let t = take_all c.loop-slot.slot-index c.args.slots.now (omega arith) in
-    record { after = cc }

@@ -1,7 +1,6 @@
-use Rattle.std.proofs.Common.{◌≡◌, ◌+◌, ◌++◌, length, take, drop, ap, arith, ◌∙◌, append_assoc, length-take-le}
-use Rattle.std.proofs.lemmas.List.{take_all}
+use Rattle.std.proofs.Common.{◌≡◌, ◌+◌, ◌++◌, length, take, drop, ap, arith, ◌∙◌, length-take-le}
 use Rattle.std.proofs.lemmas.List.Folds.{length-flat_map-take}
-use Rattle.document.specs.Escaping.{escape, escaped}
+use Rattle.document.specs.Escaping.{escaped}
 use Rattle.document.proofs.Escapes.{put_on, escape_is}
 use Rattle.document.proofs.escape.put_escaped.Goals as goal
 
@@ -27,9 +26,3 @@ loop-byte-preserved c =
     let l = ap length y in
     let m = ap length more in
     (omega arith, cc)
-
-pub returns : goal.returns
-returns c =
-    let t = take_all c.loop-byte.byte-index c.args.words.now (omega arith) in
-    let a = append_assoc (take c.args.at c.args.out.now) (escape c.args.words.now) (drop c.loop-byte.at c.args.out.now) in
-    record { value = cc; after = cc }

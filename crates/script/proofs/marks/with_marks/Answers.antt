@@ -1,5 +1,5 @@
-use Rattle.std.proofs.Common.{length, ap, ◌∙◌, arith}
-use Rattle.script.proofs.Marking.{after_shorter, word_refused, word_taken, last_word}
+use Rattle.std.proofs.Common.{◌∙◌}
+use Rattle.script.proofs.Marking.{word_refused, word_taken, last_word}
 use Rattle.script.proofs.marks.with_marks.Goals as goal
 
 pub returns-in_err-service : goal.returns-in_err-service
@@ -9,11 +9,6 @@ returns-in_err-service c =
       value = c.from_residual.ensures
           ∙ word_refused c.loop-word.service c.loop-word.rest.now c.in-Some.word.now cut.0 cut.1 c.in_err-service.ensures.value ∙ c.loop-word.invariant;
     }
-
-pub loop-word-smaller : goal.loop-word-smaller
-loop-word-smaller c =
-    let cut = c.in-Some.ensures.cases in
-    omega (arith, after_shorter 0x2C c.loop-word.rest.now cut.0, ap length cut.2)
 
 pub loop-word-preserved : goal.loop-word-preserved
 loop-word-preserved c =

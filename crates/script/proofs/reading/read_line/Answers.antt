@@ -5,15 +5,6 @@ use Rattle.script.specs.Lines.{room_for}
 use Rattle.script.proofs.Lining.{asked_by, whole_asks, whole_leaves, either_way}
 use Rattle.script.proofs.reading.read_line.Goals as goal
 
-pub returns-in-Some : goal.returns-in-Some
-returns-in-Some c =
-    record {
-      value = λ text holds small k.
-          asked_by c.args.line.now.most text _ _ _ _ _ refl (c.if-is_comment.ensures.value text holds (omega arith))
-          (c.in-Some.ensures.value text holds small (omega arith)) refl refl;
-      after = λ text holds. c.in-Some.ensures.after text holds;
-    }
-
 pub returns-in-Some-hex_value : goal.returns-in-Some-hex_value
 returns-in-Some-hex_value c =
     let most = c.args.line.now.most in

@@ -1,10 +1,7 @@
 use Rattle.std.proofs.Common.{◌≡◌, false, sym, subst, ◌∙◌}
 use Rattle.script.specs.Parts.{has_mark, after_mark}
-use Rattle.script.proofs.Lacking.{no_hyphen, no_comma}
+use Rattle.script.proofs.Lacking.{no_comma}
 use Rattle.script.proofs.service.read_service.Goals as goal
-
-pub returns-in_err-major : goal.returns-in_err-major
-returns-in_err-major c = record { value = c.from_residual.ensures ∙ sym (no_hyphen c.args.text.now c.in_err-major.ensures.cases) }
 
 pub returns-in_err-minor : goal.returns-in_err-minor
 returns-in_err-minor c =
