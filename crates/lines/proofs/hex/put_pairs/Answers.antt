@@ -1,5 +1,4 @@
-use Rattle.std.proofs.Common.{◌≡◌, ◌+◌, ◌*◌, ◌/◌, [], ◌++◌, length, get_or, take, drop, set, ap, ◌∙◌, arith}
-use Rattle.std.proofs.lemmas.List.{take_all}
+use Rattle.std.proofs.Common.{◌+◌, ◌*◌, [], ◌++◌, get_or, take, drop, set, ap, ◌∙◌, arith}
 use Rattle.lines.specs.Hex.{is_digit, worth, decoded}
 use Rattle.lines.proofs.Digits.{digit_at, pair_at, pairs_more}
 use Rattle.lines.proofs.hex.put_pairs.Goals as goal
@@ -23,13 +22,3 @@ loop-i-preserved c =
     ap (λ t. set t i c.pair.result) c.loop-i.invariant
     ∙ ap (set (decoded (take (2 * i) text) ++ drop i c.args.room.now) i) (c.pair.ensures.value ∙ ap (λ t. 16 * worth (get_or t 0 0) + worth (get_or t 1 0)) pair)
     ∙ pairs_more text c.args.room.now i (omega (arith, c.as_chunks.ensures.front_len)) (omega (arith, c.as_chunks.ensures.front_len))
-
-pub returns : goal.returns
-returns c =
-    let even = c.requires.even in
-    let n : c.loop-i.i ≡ length c.args.text.now / 2 = omega (arith, c.as_chunks.ensures.front_len) in
-    record {
-      after = c.loop-i.invariant
-          ∙ ap (λ t. decoded t ++ drop c.loop-i.i c.args.room.now) (take_all (2 * c.loop-i.i) c.args.text.now (omega arith))
-          ∙ ap (λ k. decoded c.args.text.now ++ drop k c.args.room.now) n;
-    }
