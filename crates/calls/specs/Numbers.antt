@@ -21,10 +21,8 @@ answer_number (InForce k) = 4
 
 -- the location entry beside 4
 abbrev pub answer_entry : Answer → Option ℕ
-answer_entry Repeat = None
-answer_entry Test = None
-answer_entry Elsewhere = None
 answer_entry (InForce k) = Some k
+answer_entry a = None
 
 -- the refusals of a reading and of a choice
 abbrev pub reading_number : ReadingRefusal → ℕ
@@ -47,5 +45,4 @@ reply_number (Refused e) = refusal_number e
 
 abbrev pub reply_entry : Reply → Option ℕ
 reply_entry (Answered a) = answer_entry a
-reply_entry Granted = None
-reply_entry (Refused e) = None
+reply_entry r = None

@@ -1,7 +1,7 @@
 // What a call is given back.
 ghost use Rattle.std.specs.Prelude.{◌≡◌};
 ghost use Rattle.calls.specs.Numbers.{reply_number, reply_entry};
-ghost use Rattle.calls.specs.Replying.{of_section, OfGrant};
+ghost use Rattle.calls.specs.Replying.{of_section, IsReplyTo};
 
 use super::answer::Answer;
 use super::refusal::CallRefusal;
@@ -30,7 +30,7 @@ impl From<Result<Answer, SectionRefusal>> for Reply {
 
 // To a reading or a choice: granted or refused, and no more.
 impl<E: Into<CallRefusal>> From<Result<(), E>> for Reply {
-    ghost from_gives = { OfGrant E.converts };
+    ghost from_gives = { IsReplyTo E.converts };
 
     fn from(given: Result<(), E>) -> Reply {
         match given {

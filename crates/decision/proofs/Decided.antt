@@ -2,9 +2,10 @@
 use Rattle.std.proofs.Common.{◌≡◌, ℕ, Bool, true, false, cond, List, [], Some, None, Option, sym, subst}
 use Rattle.station.specs.declared.service.Service.{Service}
 use Rattle.sets.specs.declared.sound.Sound.TheVariants.{Own}
+use Rattle.sets.specs.Meaning.{plain}
 use Rattle.decision.specs.declared.alert.Alert.{Alert}
 use Rattle.decision.specs.declared.picture.Picture.{Picture}
-use Rattle.decision.specs.Pictures.{applies_to, plain, alerted, pictured}
+use Rattle.decision.specs.Pictures.{applies_to, alerted, pictured}
 use Rattle.decision.specs.Drives.{Pictures}
 
 pub plainly : (p : Picture) (ss : List Service) (home : ℕ) → (p.service ≡ home) × (p.sound ≡ Own) × (p.caption.now ≡ []) → Pictures p (plain ss home)

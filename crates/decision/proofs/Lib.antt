@@ -2,3 +2,4 @@ pub mod Firsts
 pub mod Decided
 pub mod Said
 pub mod Clear
+pub mod Sounding

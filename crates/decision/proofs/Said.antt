@@ -4,10 +4,10 @@ use Rattle.std.proofs.lemmas.Bool.{and_parts, and_from, leb-true, le-leb, both_w
 use Rattle.station.specs.declared.service.Service.{Service}
 use Rattle.text.specs.Said.{said}
 use Rattle.sets.specs.declared.sound.Sound.TheVariants.{Own}
-use Rattle.sets.specs.Meaning.{Meaning}
+use Rattle.sets.specs.Meaning.{Meaning, plain}
 use Rattle.decision.specs.declared.alert.Alert.{Alert}
 use Rattle.sets.specs.Sounds.{sound_from}
-use Rattle.decision.specs.Pictures.{applies_to, between, shown_by, service_for, plain, alerted, pictured}
+use Rattle.decision.specs.Pictures.{applies_to, between, shown_by, service_for, alerted, pictured}
 use Rattle.decision.specs.Sentences.{Takes, Sentences}
 
 never : {A : Type 0} (a : Alert) → ◌≡◌ {A = Option Alert} None (Some a) → A

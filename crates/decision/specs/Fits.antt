@@ -1,7 +1,6 @@
 -- When the picture of an alert can be shown, and what presenting it does. Assumes nothing.
-use Rattle.std.specs.Prelude.{◌≡◌, ℕ, ◌<◌, true, List, length, Some, None, Ok, Err, Option, Result}
+use Rattle.std.specs.Prelude.{◌≡◌, ℕ, ◌<◌, ⊤, true, List, length, Some, None, Ok, Err, Option, Result}
 use Rattle.station.specs.declared.service.Service.{Service}
-use Rattle.section.specs.declared.refusal.SectionRefusal.{SectionRefusal}
 use Rattle.sets.specs.declared.refusal.SetRefusal.{SetRefusal}
 use Rattle.sets.specs.Meaning.{Meaning, apart_at}
 use Rattle.decision.specs.declared.alert.Alert.{Alert}
@@ -10,11 +9,11 @@ use Rattle.decision.specs.Drives.{Pictures, Drives}
 use Rattle.decision.specs.Pictures.{pictured}
 
 abbrev pub Listed : List Service → Option ℕ → Type 0
-Listed ss None = Unit {0}
+Listed ss None = ⊤
 Listed ss (Some k) = k < length ss
 
 abbrev pub Apart : List Service → Option ℕ → Type 0
-Apart ss None = Unit {0}
+Apart ss None = ⊤
 Apart ss (Some k) = apart_at ss k ≡ true
 
 -- the alert's details service is on the list, and its sound is one that can be borrowed
@@ -23,13 +22,8 @@ pub record Fits (ss : List Service) (a : Alert) : Type 0 where
   pub sound : Apart ss a.sound
 
 abbrev pub AllFits : List Service → Option Alert → Type 0
-AllFits ss None = Unit {0}
+AllFits ss None = ⊤
 AllFits ss (Some a) = Fits ss a
-
--- what a kept alert fits
-abbrev pub KeptFits : List Service → Result Alert SectionRefusal → Type 0
-KeptFits ss (Ok a) = Fits ss a
-KeptFits ss (Err e) = Unit {0}
 
 -- the set means the picture; refused, it is as it was, and that does not happen to an alert that fits a set which lists the viewer's service
 abbrev pub Presents : {U : Type 0} → Meaning → Option Alert → ℕ → Result U SetRefusal → Meaning → Type 0

@@ -1,19 +1,16 @@
 -- The picture that an alert asks for. Assumes nothing.
-use Rattle.std.specs.Prelude.{ℕ, Bool, false, cond, not, ◌&&◌, List, [], Some, None, Option, nat_le, slice_index_or}
+use Rattle.std.specs.Prelude.{ℕ, Bool, false, cond, not, ◌&&◌, List, Some, None, Option, nat_le, slice_index_or}
 use Rattle.station.specs.declared.service.Service.{Service}
 use Rattle.text.specs.Said.{said}
-use Rattle.sets.specs.declared.sound.Sound.TheVariants.{Own}
-use Rattle.sets.specs.Meaning.{Meaning, service_at}
+use Rattle.sets.specs.Meaning.{Meaning, plain, service_at, holds}
 use Rattle.sets.specs.Sounds.{sound_from}
 use Rattle.decision.specs.declared.alert.Alert.{Alert}
 
 abbrev pub is_paid : Option Service → Bool
-is_paid None = false
-is_paid (Some s) = s.paid
+is_paid service = holds (λ s. s.paid) service
 
 abbrev pub is_controlled : Option Service → Bool
-is_controlled None = false
-is_controlled (Some s) = s.controlled
+is_controlled service = holds (λ s. s.controlled) service
 
 abbrev pub between : ℕ → ℕ → ℕ → Bool
 between low high n = nat_le low n && nat_le n high
@@ -35,15 +32,11 @@ abbrev pub service_for : Alert → ℕ → Option ℕ → ℕ
 service_for a home None = shown_by a.priority.0 a.details home
 service_for a home (Some k) = home
 
--- the viewer's service alone
-abbrev pub plain : List Service → ℕ → Meaning
-plain ss home = record { services = ss; shown = home; sound = Own; caption = [] }
-
 -- under an alert that applies
 abbrev pub alerted : Alert → List Service → ℕ → Meaning
-alerted a ss home = record { services = ss; shown = service_for a home a.sound; sound = sound_from a.sound; caption = said a.text }
+alerted a ss home = record (plain ss home) { shown = service_for a home a.sound; sound = sound_from a.sound; caption = said a.text }
 
--- what the set shall mean under the alert in force, if any, with the viewer's service home
+-- what the set shall mean under the alert in force, if any, with the viewer's service home, which is shown alone where no alert applies
 unfoldable pub pictured : Option Alert → List Service → ℕ → Meaning
 pictured None ss home = plain ss home
 pictured (Some a) ss home = cond (applies_to a ss home) (alerted a ss home) (plain ss home)

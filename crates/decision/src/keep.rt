@@ -1,9 +1,12 @@
 // What is kept of an alert that comes into force.
-ghost use Rattle.std.specs.Prelude.{◌≡◌, ℕ, ◌+◌, ◌<◌, false, Some, None, MatchResult, slice_index_or};
+ghost use Rattle.std.specs.Prelude.{◌≡◌, ℕ, ◌+◌, ◌<◌, false, IfOk, slice_index_or};
+ghost use Rattle.station.specs.Rules.{Gives};
+ghost use Rattle.section.specs.Origins.{bytes_of};
+ghost use Rattle.section.specs.Refusals.{number};
 ghost use Rattle.section.specs.Rules.{refusal};
 ghost use Rattle.sets.specs.Meaning.{service_at};
-ghost use Rattle.decision.specs.Alerts.{end_of, Marked, Kept};
-ghost use Rattle.decision.specs.Fits.{KeptFits};
+ghost use Rattle.decision.specs.Alerts.{end_of, Marked, Keeps};
+ghost use Rattle.decision.specs.Fits.{Fits};
 
 use super::alert::{Alert, Excepted};
 use super::lookup::{borrowable_sound, details_service};
@@ -29,7 +32,7 @@ fn is_excepted(
     path: Path,
     service: Option<Service>,
 ) -> Result<bool, SectionRefusal>
-    ensures { MatchResult result (λ mark. (refusal section.now.bytes.now ≡ None) × Marked section.now.bytes.now path service mark) (λ e. refusal section.now.bytes.now ≡ Some e) }
+    ensures { Gives number (refusal (bytes_of section.now)) (λ mark. Marked (bytes_of section.now) path service mark) result }
 {
     match service {
         Some(service) => section.excepts(&Tuned { service, path }),
@@ -43,7 +46,7 @@ fn excepted_by<S: Set>(
     set: &S,
     path: Path,
 ) -> Result<Excepted, SectionRefusal>
-    ensures { MatchResult result (λ x. (k : ℕ) → k < 256 → Marked section.now.bytes.now path (service_at (S.meaning set.now).services k) (slice_index_or x.marks k false)) (λ e. refusal section.now.bytes.now ≡ Some e) }
+    ensures { Gives number (refusal (bytes_of section.now)) (λ x. (k : ℕ) → k < 256 → Marked (bytes_of section.now) path (service_at (S.meaning set.now).services k) (slice_index_or x.marks k false)) result }
 {
     let mut marks = [false; 256];
     for (k, mark) in marks.iter_mut().enumerate() {
@@ -59,8 +62,8 @@ pub fn keep_alert<S: Set>(
     path: Path,
     clock: u32,
 ) -> Result<Alert, SectionRefusal>
-    ensures cases { Kept section.now.bytes.now (S.meaning set.now).services path clock result }
-    ensures fits { KeptFits (S.meaning set.now).services result }
+    ensures cases { Gives number (refusal (bytes_of section.now)) (λ alert. Keeps (bytes_of section.now) (S.meaning set.now).services path clock alert) result }
+    ensures fits { IfOk result (λ alert. Fits (S.meaning set.now).services alert) }
 {
     let fields = section.fields()?;
     let text = section.text()?;

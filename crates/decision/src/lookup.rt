@@ -1,6 +1,6 @@
 // The services that an alert points to, on any set.
-ghost use Rattle.std.specs.Prelude.{◌≡◌};
-ghost use Rattle.decision.specs.Lookups.{bears, details_name, first_of, details_of, if_apart, audio_of, sound_by};
+ghost use Rattle.std.specs.Prelude.{◌≡◌, position};
+ghost use Rattle.decision.specs.Lookups.{bears, details_name, details_of, IsApart, IsAudio, IsSound, Picks};
 
 use super::name::{Name, is_named};
 use section::Fields;
@@ -9,7 +9,7 @@ use station::Path;
 
 // The first service that has the name.
 pub fn first_named<S: Set>(set: &S, name: Name) -> Option<usize>
-    ensures { result ≡ first_of (bears name) (S.meaning set.now).services }
+    ensures { result ≡ position (bears name) (S.meaning set.now).services }
 {
     (0..set.count()).find(|k| is_named(set.service(*k), name))
 }
@@ -28,14 +28,14 @@ pub fn details_service<S: Set>(set: &S, path: Path, fields: &Fields) -> Option<u
 
 // The service, if its sound can be heard apart from its picture.
 fn if_apart<S: Set>(set: &S, number: Option<usize>) -> Option<usize>
-    ensures { result ≡ if_apart (S.meaning set.now).services number }
+    ensures { Picks (IsApart (S.meaning set.now).services number) result }
 {
     number.filter(|k| set.service(*k).is_some_and(|service| service.apart))
 }
 
 // Out-of-band, the audio service if it is apart.
 fn audio_service<S: Set>(set: &S, path: Path, fields: &Fields) -> Option<usize>
-    ensures { result ≡ audio_of path fields.now (S.meaning set.now).services }
+    ensures { Picks (IsAudio path fields.now (S.meaning set.now).services) result }
 {
     match path {
         Path::InBand => None,
@@ -53,7 +53,7 @@ pub fn borrowable_sound<S: Set>(
     fields: &Fields,
     details: Option<usize>,
 ) -> Option<usize>
-    ensures { result ≡ sound_by path fields.now (S.meaning set.now).services details }
+    ensures { Picks (IsSound path fields.now (S.meaning set.now).services details) result }
 {
     audio_service(set, path, fields).or(if_apart(set, details))
 }

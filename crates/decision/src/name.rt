@@ -1,6 +1,7 @@
 // What an alert names a service by.
 ghost use Rattle.std.specs.Prelude.{◌≡◌};
-ghost use Rattle.decision.specs.Lookups.{bears as bearsName, holds};
+ghost use Rattle.sets.specs.Meaning.{holds};
+ghost use Rattle.decision.specs.Lookups.{bears as bearsName};
 
 use station::{ChannelPair, Service, SourceId};
 

@@ -1,5 +1,5 @@
 // The decision and the driver together.
-ghost use Rattle.std.specs.Prelude.{◌≡◌};
+ghost use Rattle.std.specs.Prelude.{◌≡◌, IfErr};
 ghost use Rattle.decision.specs.Fits.{Presents, BroughtTo};
 ghost use Rattle.decision.specs.Sentences.{TheSentencesSayThePicture};
 
@@ -15,6 +15,7 @@ pub fn present_alert<S: Set>(
     home: usize,
 ) -> Result<(), SetRefusal>
     ensures cases { Presents (S.meaning set.old) alert.now home result (S.meaning set.new) }
+    ensures refused_leaves_the_set { IfErr result (λ _. set.new ≡ set.old) }
     ensures refused_as_its_picture { BroughtTo (S.meaning set.old) alert.now home result (S.meaning set.new) }
 {
     let picture = decide_picture(set, alert, home);

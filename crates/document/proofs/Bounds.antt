@@ -1,5 +1,5 @@
 -- The fragments of a table in rising number, and what they lack. Assumes nothing.
-use Rattle.std.proofs.Common.{◌≡◌, ℕ, zero, suc, ◌+◌, ◌*◌, ◌<◌, ◌≤◌, Bool, true, false, cond, not, ◌&&◌, ◌||◌, eqb, List, [], ◌∷◌, ◌++◌, length, get_or, take, drop, Some, None, Option, sym, refl, ap, ◌∙◌, add-one, arith, length-append, length-drop}
+use Rattle.std.proofs.Common.{◌≡◌, ℕ, zero, suc, ◌+◌, ◌*◌, ◌<◌, ◌≤◌, Bool, true, false, not, ◌&&◌, ◌||◌, eqb, List, [], ◌∷◌, ◌++◌, length, get_or, take, drop, Some, None, Option, sym, refl, ap, ◌∙◌, add-one, arith, length-append, length-drop}
 use Rattle.std.specs.Borrow.{Bor}
 use Rattle.std.specs.Option.{is_some}
 use Rattle.std.specs.List.{list_all}
@@ -7,13 +7,13 @@ use Rattle.std.proofs.lemmas.List.{get_or-drop, get_or_past}
 use Rattle.std.proofs.lemmas.List.Folds.{list_all_more}
 use Rattle.std.proofs.lemmas.Bool.{ne_eqb}
 use Rattle.std.proofs.lemmas.Bool.Decides.{nat_tests}
+use Rattle.station.specs.Rules.{unless}
 use Rattle.document.specs.Descriptors.{Descriptor}
 use Rattle.document.specs.Fragments.{Fragment, any_breaks, fragments_of, tally, repeats, lookup, missing, chained}
 use Rattle.document.specs.Document.{fault, fault_of, gap, bound}
 use Rattle.document.specs.Tables.{empty, Placed, Tabled, placed_bytes, pieces}
 use Rattle.document.specs.declared.slots.Slot.{Slot}
 use Rattle.document.specs.declared.slots.Gathering.{Gathering}
-use Rattle.document.specs.declared.refusal.DocumentRefusal.TheVariants.{Gap}
 use Rattle.document.proofs.Bindings.{missing_at}
 use Rattle.document.proofs.Escapes.{flat_map_on}
 
@@ -47,7 +47,7 @@ both false true = refl
 both false false = refl
 
 -- with nothing wrong before it, only a gap is left to refuse
-fault_left : (b : Bool) (n : ℕ) (r g : Bool) → b ≡ false → (n ≡ 0 → ⊥) → r ≡ false → fault b n r g ≡ cond g (Some Gap) None
+fault_left : (b : Bool) (n : ℕ) (r g : Bool) → b ≡ false → (n ≡ 0 → ⊥) → r ≡ false → fault b n r g ≡ unless (not g) 24 None
 fault_left b n r g p z q = rw (p, ne_eqb n 0 z, q)
 
 module _ (ds : List Descriptor) (g : Gathering) (h : Tabled ds g) where
@@ -91,9 +91,9 @@ module _ (ds : List Descriptor) (g : Gathering) (h : Tabled ds g) where
       ∙ (ap (λ b. not (missing (λ k. tally k fs) n) && b) some ∙ both (eqb (tally (suc n) fs) 0) (missing (λ k. tally k fs) n))))
 
   module _ (broken : g.broken ≡ false) (some : g.count ≡ 0 → ⊥) (twice : g.twice ≡ false) where
-    left : fault_of ds ≡ cond (missing (λ k. tally k fs) g.count) (Some Gap) None
+    left : fault_of ds ≡ unless (not (missing (λ k. tally k fs) g.count)) 24 None
     left = fault_left (any_breaks ds) (length fs) (repeats fs) (gap fs) (sym h.broken ∙ broken) (λ z. some (h.count ∙ z)) (sym h.twice ∙ twice)
-        ∙ ap (λ n. cond (missing (λ k. tally k fs) n) (Some Gap) None) (sym h.count)
+        ∙ ap (λ n. unless (not (missing (λ k. tally k fs) n)) 24 None) (sym h.count)
 
     -- none of the numbers is missing
     pub all_bound : (ps : List Slot) → ps ≡ take g.count rest → g.count < 256 → list_all filled ps ≡ true
@@ -103,21 +103,21 @@ module _ (ds : List Descriptor) (g : Gathering) (h : Tabled ds g) where
         let m : missing (λ k. tally k fs) g.count ≡ false = grind (arith, b) in
         let short = pieces_short g.count lt in
         let l = ap (λ x. length (pieces x)) e in (
-          left ∙ ap (λ b. cond b (Some Gap) None) m,
+          left ∙ ap (λ b. unless (not b) 24 None) m,
           ap pieces e ∙ (pieces_are g.count lt ∙ ap (chained (λ k. lookup k fs)) h.count),
           omega arith,
         )
 
     -- a number of the table is missing
-    pub one_missing : (ps : List Slot) → ps ≡ take g.count rest → g.count < 256 → list_all filled ps ≡ false → fault_of ds ≡ Some Gap
+    pub one_missing : (ps : List Slot) → ps ≡ take g.count rest → g.count < 256 → list_all filled ps ≡ false → fault_of ds ≡ Some 24
     one_missing ps e lt all =
         let b : not (missing (λ k. tally k fs) g.count) ≡ false = sym (all_there g.count lt) ∙ (sym (ap (list_all filled) e) ∙ all) in
         let m : missing (λ k. tally k fs) g.count ≡ true = grind (arith, b) in
-        left ∙ ap (λ b. cond b (Some Gap) None) m
+        left ∙ ap (λ b. unless (not b) 24 None) m
 
     -- more fragments than the table has numbers for: 256 is missing
-    pub past_table : 256 ≤ g.count → fault_of ds ≡ Some Gap
+    pub past_table : 256 ≤ g.count → fault_of ds ≡ Some 24
     past_table ge =
         let none : get_or g.slots 256 empty ≡ empty = get_or_past g.slots 256 empty (omega (arith, h.table)) in
         let zero-tally : tally 256 fs ≡ 0 = placed_gone fs 256 (get_or g.slots 256 empty).fragment (h.places 256) (ap (λ (s : Slot). s.fragment) none) in
-        left ∙ ap (λ b. cond b (Some Gap) None) (missing_at (λ k. tally k fs) 255 g.count (omega arith) zero-tally)
+        left ∙ ap (λ b. unless (not b) 24 None) (missing_at (λ k. tally k fs) 255 g.count (omega arith) zero-tally)

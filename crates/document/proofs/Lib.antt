@@ -4,8 +4,12 @@ pub mod Bindings
 pub mod Layings
 pub mod Orders
 pub mod Rearrangements
+pub mod Carryings
+pub mod Risings
+pub mod Laws
 pub mod Firsts
 pub mod Deliveries
+pub mod Fillings
 pub mod Holdings
 pub mod Walks
 pub mod Tables

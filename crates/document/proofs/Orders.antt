@@ -45,19 +45,19 @@ fragments_same (keep {x = d} r) = kept (carries d) (fragment_of d.body) (fragmen
 fragments_same (swap {x = d} {y = e} {xs = ds}) = swapped (carries d) (carries e) (fragment_of d.body) (fragment_of e.body) (fragments_of ds)
 fragments_same (chain r q) = chain (fragments_same r) (fragments_same q)
 
-length_same : {fs gs : List Fragment} → Reordered fs gs → length fs ≡ length gs
+pub length_same : {fs gs : List Fragment} → Reordered fs gs → length fs ≡ length gs
 length_same none = refl
 length_same (keep r) = ap suc (length_same r)
 length_same swap = refl
 length_same (chain r q) = length_same r ∙ length_same q
 
-tally_same : (k : ℕ) {fs gs : List Fragment} → Reordered fs gs → tally k fs ≡ tally k gs
+pub tally_same : (k : ℕ) {fs gs : List Fragment} → Reordered fs gs → tally k fs ≡ tally k gs
 tally_same k none = refl
 tally_same k (keep {x = f} r) = ap (λ n. cond (eqb f.number k) (suc n) n) (tally_same k r)
 tally_same k (swap {x = f} {y = g} {xs = fs}) = grind (arith, nat_tests)
 tally_same k (chain r q) = tally_same k r ∙ tally_same k q
 
-repeats_same : {fs gs : List Fragment} → Reordered fs gs → repeats fs ≡ repeats gs
+pub repeats_same : {fs gs : List Fragment} → Reordered fs gs → repeats fs ≡ repeats gs
 repeats_same none = refl
 repeats_same (keep {x = f} {xs = fs} {ys = gs} r) =
     ap (λ n. ltb 0 n || repeats fs) (tally_same f.number r) ∙ ap (λ b. ltb 0 (tally f.number gs) || b) (repeats_same r)
@@ -75,11 +75,11 @@ lookup_same k (keep {x = f} {xs = fs} r) h =
 lookup_same k (swap {x = f} {y = g} {xs = fs}) h = lookup_swap k f g fs h
 lookup_same k (chain r q) h = lookup_same k r h ∙ lookup_same k q (sym (repeats_same r) ∙ h)
 
-gap_same : {fs gs : List Fragment} → Reordered fs gs → gap fs ≡ gap gs
+pub gap_same : {fs gs : List Fragment} → Reordered fs gs → gap fs ≡ gap gs
 gap_same {fs} {gs} r =
-    missing_same (λ k. tally k fs) (λ k. tally k gs) (λ k. ap (λ n. eqb n 0) (tally_same k r)) (length fs) ∙ ap (missing (λ k. tally k gs)) (length_same r)
+    missing_same (λ k. tally k fs) (λ k. tally k gs) (length fs) (λ k le. ap (λ n. eqb n 0) (tally_same k r)) ∙ ap (missing (λ k. tally k gs)) (length_same r)
 
-bound_same : {fs gs : List Fragment} → Reordered fs gs → repeats fs ≡ false → bound fs ≡ bound gs
+pub bound_same : {fs gs : List Fragment} → Reordered fs gs → repeats fs ≡ false → bound fs ≡ bound gs
 bound_same {fs} {gs} r h =
     chained_same (λ k. lookup k fs) (λ k. lookup k gs) (λ k. lookup_same k r h) (length fs) ∙ ap (chained (λ k. lookup k gs)) (length_same r)
 

@@ -12,7 +12,7 @@ pub record Walked : Type 0 where
   pub torn : List ℕ
 
 abbrev pub first : Descriptor → Walked → Walked
-first d w = record { whole = d ∷ w.whole; torn = w.torn }
+first d w = record w { whole = d ∷ w.whole }
 
 -- a tag, a length and that many bytes, again and again, in at most so many steps
 abbrev pub walked_in : ℕ → List ℕ → Walked

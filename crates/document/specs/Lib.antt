@@ -1,3 +1,4 @@
+pub mod Lengths
 pub mod Escaping
 pub mod Placeholder
 pub mod Refusals
@@ -8,6 +9,7 @@ pub mod Document
 pub mod Tables
 pub mod Gathers
 pub mod Rearranging
+pub mod Carrying
 pub mod Handing
 pub mod Delivering
 pub mod Law

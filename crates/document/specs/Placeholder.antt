@@ -19,6 +19,10 @@ abbrev pub inserted : List ℕ → List ℕ → Option ℕ → List ℕ
 inserted doc words None = doc
 inserted doc words (Some i) = take (i + 11) doc ++ (escape words ++ drop (i + 11) doc)
 
+-- filled is the document with the words in its first placeholder
+abbrev pub IsFilled : List ℕ → List ℕ → List ℕ → Type 0
+IsFilled doc words filled = (place : Option ℕ) × First doc place × (filled ≡ inserted doc words place)
+
 -- the document so filled at the front of the buffer and the old bytes after it; a buffer that is too short stays as it was
 abbrev pub Puts : List ℕ → List ℕ → List ℕ → Option ℕ → List ℕ → Type 0
 Puts doc words before (Some n) after =

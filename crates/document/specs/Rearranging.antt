@@ -1,5 +1,5 @@
 -- Sections that differ only in the order of their whole descriptors and in the check word. Assumes nothing.
-use Rattle.std.specs.Prelude.{◌≡◌, ℕ, ◌+◌, ◌<◌, List, [], ◌∷◌, ◌++◌, length, take, None}
+use Rattle.std.specs.Prelude.{◌≡◌, ⊤, ℕ, ◌+◌, ◌<◌, List, [], ◌∷◌, ◌++◌, length, take, None}
 use Rattle.section.specs.Places.{descriptors_at, descriptors_of}
 use Rattle.section.specs.Rules.{refusal}
 use Rattle.document.specs.Descriptors.{Descriptor}
@@ -11,8 +11,8 @@ laid (d ∷ ds) = d.tag ∷ (length d.body ∷ (d.body ++ laid ds))
 
 -- bytes in which no whole descriptor begins
 abbrev pub Torn : List ℕ → Type 0
-Torn [] = Unit {0}
-Torn (t ∷ []) = Unit {0}
+Torn [] = ⊤
+Torn (t ∷ []) = ⊤
 Torn (t ∷ (l ∷ rest)) = length rest < l
 
 -- the same things in another order, by exchanges of neighbours

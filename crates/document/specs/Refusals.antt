@@ -7,8 +7,8 @@ use Rattle.document.specs.declared.unfilled.FillRefusal.{FillRefusal}
 use Rattle.document.specs.declared.unfilled.FillRefusal.TheVariants.{Words, Short as Room}
 use Rattle.document.specs.declared.withheld.HandOutRefusal.{HandOutRefusal}
 use Rattle.document.specs.declared.withheld.HandOutRefusal.TheVariants.{Short as Cut}
-use Rattle.document.specs.declared.undelivered.DeliveryRefusal.{DeliveryRefusal}
-use Rattle.document.specs.declared.undelivered.DeliveryRefusal.TheVariants.{Gather, Fill, HandOut}
+use Rattle.document.specs.declared.undelivered.Undelivered.{Undelivered}
+use Rattle.document.specs.declared.undelivered.Undelivered.TheVariants.{Gather, Fill, HandOut}
 
 -- the number of each
 abbrev pub number : DocumentRefusal → ℕ
@@ -45,18 +45,18 @@ abbrev pub hand_out_words : HandOutRefusal → List ℕ
 hand_out_words Cut = codes "buffer too short"
 
 -- a delivery is refused as the call that refused it
-abbrev pub delivery_number : DeliveryRefusal → ℕ
+abbrev pub delivery_number : Undelivered → ℕ
 delivery_number (Gather e) = number e
-delivery_number (Fill e) = fill_number e
+delivery_number (Fill e) = fill_number e.refusal
 delivery_number (HandOut e) = hand_out_number e
 
-abbrev pub delivery_words : DeliveryRefusal → List ℕ
+abbrev pub delivery_words : Undelivered → List ℕ
 delivery_words (Gather e) = words e
-delivery_words (Fill e) = fill_words e
+delivery_words (Fill e) = fill_words e.refusal
 delivery_words (HandOut e) = hand_out_words e
 
 -- the call that refused, by name
-abbrev pub call_of : DeliveryRefusal → List ℕ
+abbrev pub call_of : Undelivered → List ℕ
 call_of (Gather e) = codes "gather"
 call_of (Fill e) = codes "fill"
 call_of (HandOut e) = codes "hand out"

@@ -6,6 +6,7 @@ use Rattle.std.specs.Borrow.{Bor}
 use Rattle.document.specs.Descriptors.{Descriptor}
 use Rattle.document.specs.Fragments.{Fragment, any_breaks, fragments_of, tally, repeats, lookup}
 use Rattle.document.specs.Document.{fault_of, bound}
+use Rattle.document.specs.Refusals.{number}
 use Rattle.document.specs.declared.slots.Slot.{Slot}
 use Rattle.document.specs.declared.slots.Gathering.{Gathering}
 use Rattle.document.specs.declared.refusal.DocumentRefusal.{DocumentRefusal}
@@ -33,7 +34,7 @@ placed_bytes s = option_map_or (λ bytes. bytes.now) s.fragment []
 abbrev pub pieces : List Slot → List ℕ
 pieces slots = flat_map placed_bytes slots
 
--- the fragments of the descriptors in rising number, or the first test that fails
+-- the fragments of the descriptors in rising number, or the first rule that they break
 abbrev pub Binds : List Descriptor → Result (Bor (List Slot)) DocumentRefusal → Type 0
 Binds ds (Ok slots) = (fault_of ds ≡ None) × (pieces slots.now ≡ bound (fragments_of ds)) × (length (pieces slots.now) ≤ 65535)
-Binds ds (Err e) = fault_of ds ≡ Some e
+Binds ds (Err e) = fault_of ds ≡ Some (number e)

@@ -16,6 +16,6 @@ mod withheld;
 pub use delivery::deliver;
 pub use moved::{Filled, Gathered, Unfilled, fill, gather, hand_out};
 pub use refusal::DocumentRefusal;
-pub use undelivered::DeliveryRefusal;
+pub use undelivered::Undelivered;
 pub use unfilled::FillRefusal;
 pub use withheld::HandOutRefusal;

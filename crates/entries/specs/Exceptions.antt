@@ -1,10 +1,9 @@
 -- An exception entry, five bytes: a flag bit and seven reserved bits, then with flag 1 a major and a minor channel number of ten bits each, with flag 0 two reserved bytes and a source ID. Assumes nothing.
-use Rattle.std.specs.Prelude.{ℕ, ◌+◌, ◌*◌, ◌%◌, Bool, cond, not, ◌&&◌, List, ◌==◌, nat_le, slice_index}
-use Rattle.station.specs.declared.service.ChannelPair.{ChannelPair}
+use Rattle.std.specs.Prelude.{ℕ, ◌+◌, ◌*◌, ◌%◌, Bool, false, cond, List, nat_le, slice_index}
+use Rattle.station.specs.Names.{names_pair, names_id}
 use Rattle.station.specs.declared.service.Path.{Path}
 use Rattle.station.specs.declared.service.Path.TheVariants.{InBand, OutOfBand}
 use Rattle.station.specs.declared.service.Service.{Service}
-use Rattle.station.specs.declared.service.SourceId.{SourceId}
 use Rattle.entries.specs.Finding.{Tells}
 use Rattle.entries.specs.declared.exceptions.Exception.{Exception}
 use Rattle.entries.specs.declared.exceptions.Exception.TheVariants.{Channel, Source}
@@ -22,27 +21,18 @@ minor_of e = slice_index e 3 % 4 * 256 + slice_index e 4
 abbrev pub source_of : List ℕ → ℕ
 source_of e = slice_index e 3 * 256 + slice_index e 4
 
+-- what the entry states
 abbrev pub exception_of : List ℕ → Exception
 exception_of e = cond (flagged e) (Channel (record { major = major_of e; minor = minor_of e })) (Source (record { 0 = source_of e }))
 
--- on the in-band path flagged entries count, by their channel pair; the pair of zeros names nothing
-abbrev pub names_channel : List ℕ → ChannelPair → Bool
-names_channel e pair =
-    flagged e
-    && (not (major_of e == 0 && minor_of e == 0)
-    && (major_of e == pair.major
-    && minor_of e == pair.minor))
-
--- on the out-of-band path the others count, by their source ID; 0 names nothing
-abbrev pub names_source : List ℕ → SourceId → Bool
-names_source e id = not (flagged e) && (not (source_of e == 0) && source_of e == id.0)
-
-abbrev pub names_on : Path → List ℕ → Service → Bool
-names_on InBand e service = names_channel e service.channel
-names_on OutOfBand e service = names_source e service.source
+-- on the in-band path channel pairs count, on the out-of-band path source IDs
+abbrev pub names_on : Path → Exception → Service → Bool
+names_on InBand (Channel pair) service = names_pair pair service.channel
+names_on OutOfBand (Source id) service = names_id id service.source
+names_on path exception service = false
 
 abbrev pub names_tuned : List ℕ → Tuned → Bool
-names_tuned e tuned = names_on tuned.path e tuned.service
+names_tuned e tuned = names_on tuned.path (exception_of e) tuned.service
 
 -- whether an exception entry names the service on its path
 abbrev pub Excepts : List ℕ → Tuned → Bool → Type 0

@@ -1,6 +1,6 @@
 // Exception entries.
 ghost use Rattle.std.specs.Prelude.{◌≡◌};
-ghost use Rattle.entries.specs.Exceptions.{flagged, major_of, minor_of, source_of, exception_of, names_channel, names_source, names_tuned};
+ghost use Rattle.entries.specs.Exceptions.{flagged, major_of, minor_of, source_of, exception_of, names_tuned};
 ghost use Rattle.entries.specs.Widths.{five_bytes};
 
 use super::entry::Entry;

@@ -8,6 +8,7 @@ use Rattle.history.specs.Forces.{AlertInForce}
 use Rattle.history.specs.Screens.{Screen}
 use Rattle.history.specs.Law.{Law, Determined}
 use Rattle.history.proofs.Positions.{latest_one}
+use Rattle.history.proofs.Deciding.{number_one, verdict_one}
 use Rattle.history.proofs.Screening.{screen_one}
 
 pub home_one : (s : Start) (h : List Event) (j k : ℕ) → Home s h j → Home s h k → j ≡ k
@@ -36,4 +37,11 @@ meaning_one s h m n v w =
     (subst (λ (j : ℕ). Screen s v.alert j n) k (subst (λ (o : Option (List ℕ)). Screen s o w.home n) a w.screen))
 
 pub determined : Determined
-determined = record { one_home = home_one; one_alert = alert_one; one_meaning = meaning_one }
+determined =
+    record {
+      one_home = home_one;
+      one_alert = alert_one;
+      one_meaning = meaning_one;
+      one_number = number_one;
+      one_verdict = verdict_one;
+    }

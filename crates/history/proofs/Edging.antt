@@ -1,5 +1,5 @@
 -- The cases at the edges. Assumes nothing.
-use Rattle.std.proofs.Common.{◌≡◌, ℕ, ◌<◌, ◌≤◌, true, ◌&&◌, eqb, List, [], ◌∷◌, ◌++◌, length, Some, None, Decides, Option, sym, refl, ap, ◌∙◌, subst, ⊎_elim, append_assoc, arith}
+use Rattle.std.proofs.Common.{◌≡◌, ℕ, ◌<◌, ◌≤◌, true, ◌&&◌, eqb, List, [], ◌∷◌, ◌++◌, length, Some, None, Ok, Decides, Option, sym, refl, ap, ◌∙◌, subst, ⊎_elim, append_assoc, arith}
 use lib.Utf8.{encode}
 use Rattle.std.proofs.lemmas.Bool.{and_parts, and_from, eqb-true, eq-eqb}
 use Rattle.station.specs.declared.place.Place.{Place}
@@ -9,6 +9,7 @@ use Rattle.entries.specs.Exceptions.{names_tuned}
 use Rattle.entries.specs.Locations.{agree, names_place}
 use Rattle.text.specs.Reading.{character, text_of}
 use Rattle.decision.specs.Alerts.{end_of}
+use Rattle.document.specs.Document.{document_of}
 use Rattle.history.specs.Histories.{Event, sent, told, Start, event_at, clock_after}
 use Rattle.history.specs.Sections.{seconds, Taken}
 use Rattle.history.specs.Forces.{Past, end_at, AlertInForce}
@@ -27,15 +28,22 @@ county p = (
 part : (p : Place) (n : ℕ) → p.state ≡ 6 → p.county ≡ 37 → p.part ≡ n → names_place (0x06 ∷ 0x5C ∷ 0x25 ∷ []) p ≡ agree 5 n
 part p n a b c = λ i. eqb 6 (a i) && (eqb 37 (b i) && agree 5 (c i))
 
-channel : (s : Service) → s.channel.major ≡ 12 → s.channel.minor ≡ 1 → names_tuned (0xFF ∷ 0xFC ∷ 0x0C ∷ 0xFC ∷ 0x01 ∷ []) (record { service = s; path = InBand }) ≡ true
-channel s a b = λ i. eqb 12 (a i) && eqb 1 (b i)
+channel : (s : Service) → Decides (names_tuned (0xFF ∷ 0xFC ∷ 0x0C ∷ 0xFC ∷ 0x01 ∷ []) (record { service = s; path = InBand })) ((s.channel.major ≡ 12) × (s.channel.minor ≡ 1))
+channel s = (
+  λ e. let q = and_parts (eqb 12 s.channel.major) (eqb 1 s.channel.minor) e in (sym (eqb-true 12 s.channel.major q.0), sym (eqb-true 1 s.channel.minor q.1)),
+  λ e. and_from (eqb 12 s.channel.major) (eqb 1 s.channel.minor) (eq-eqb 12 s.channel.major (sym e.0)) (eq-eqb 1 s.channel.minor (sym e.1)),
+)
 
-source : (s : Service) → s.source.0 ≡ 256 → names_tuned (0x7F ∷ 0xFF ∷ 0xFF ∷ 0x01 ∷ 0x00 ∷ []) (record { service = s; path = OutOfBand }) ≡ true
-source s a = λ i. eqb 256 (a i)
+source : (s : Service) → Decides (names_tuned (0x7F ∷ 0xFF ∷ 0xFF ∷ 0x01 ∷ 0x00 ∷ []) (record { service = s; path = OutOfBand })) (s.source.0 ≡ 256)
+source s = (λ e. sym (eqb-true 256 s.source.0 e), λ e. eq-eqb 256 s.source.0 (sym e))
 
 text : text_of (0x01 ∷ 0x65 ∷ 0x6E ∷ 0x67 ∷ 0x01 ∷ 0x00 ∷ 0x00 ∷ 0x02 ∷ 0x4F ∷ 0x4B ∷ []) ≡ 0x4F ∷ 0x4B ∷ []
 unfolding text_of encode
 text = refl
+
+document : document_of (0x03 ∷ 0x04 ∷ 0x01 ∷ 0x02 ∷ 0x3C ∷ 0x61 ∷ []) ≡ Ok (0x3C ∷ 0x61 ∷ [])
+unfolding document_of
+document = refl
 
 mode : character 4 0x10 ≡ 0xD0 ∷ 0x90 ∷ []
 unfolding encode
@@ -89,10 +97,14 @@ edge_cases =
       part_4 = λ p a b c. part p 4 a b c;
       everywhere = λ p. refl;
       a_channel = channel;
+      no_channel_out_of_band = λ s. refl;
       a_source = source;
+      no_source_in_band = λ s. refl;
+      a_field = refl;
       a_text = text;
       a_mode = mode;
       a_fragment = refl;
+      a_document = document;
       kept_before_its_end = λ s h bytes t c w. kept s h bytes t 119 (λ past. let z : Past (Some 120) 119 = subst (λ (o : Option ℕ). Past o 119) (end_here s h bytes t 119 100 20 c w) past in omega arith);
       removed_at_its_end = λ s h bytes t c w.
           removed s h bytes t 120 (let k = clock_stays s.clock h (sent bytes) (timeless_sent bytes) in omega arith)

@@ -2,6 +2,7 @@ pub mod Positions
 pub mod Endings
 pub mod Applying
 pub mod Screening
+pub mod Deciding
 pub mod Determining
 pub mod Steps
 pub mod Turns

@@ -1,9 +1,12 @@
 -- Positions of a history that is one call longer. Assumes nothing.
-use Rattle.std.proofs.Common.{◌≡◌, ℕ, ◌+◌, ◌<◌, ◌≤◌, max, ◌⊎◌, List, [], ◌∷◌, ◌++◌, length, take, sym, refl, subst, inl, inr, ⊎_elim, arith}
+use Rattle.std.proofs.Common.{◌≡◌, ℕ, ◌+◌, ◌<◌, ◌≤◌, max, ◌⊎◌, List, [], ◌∷◌, ◌++◌, length, take, fold, sym, refl, ap, ◌∙◌, subst, inl, inr, ⊎_elim, arith}
 use lib.Seq.{take-append-le, take-append_seam, get_or-append_seam}
 use Rattle.std.proofs.lemmas.List.{length_push, get_or_append_left}
+use Rattle.std.proofs.lemmas.List.Elements.{filter_map-append}
+use Rattle.std.proofs.lemmas.List.Sums.{fold-append}
 use Rattle.std.proofs.lemmas.Bool.{cases_lt}
-use Rattle.history.specs.Histories.{Event, sent, told, chose, event_at, At, Never, Latest, clock_after}
+use Rattle.std.specs.List.{filter_map}
+use Rattle.history.specs.Histories.{Event, sent, told, chose, event_at, At, Never, Latest, reading_of, clock_after}
 
 pub long : (h : List Event) (e : Event) → length (h ++ e ∷ []) ≡ length h + 1
 long h e = length_push h e
@@ -84,24 +87,23 @@ latest_one P h i j a b =
     (λ l. ⊎_elim (λ m. absurd (b.none_later i m a.within a.has)) (λ m. omega arith) (cases_lt j i))
     (cases_lt i j)
 
+-- the clock after one call more
+more_read : (t : ℕ) (h : List Event) (e : Event) → clock_after t (h ++ e ∷ []) ≡ fold max (clock_after t h) (filter_map reading_of (e ∷ []))
+more_read t h e =
+    ap (fold max t) (filter_map-append reading_of h (e ∷ [])) ∙ fold-append max t (filter_map reading_of h) (filter_map reading_of (e ∷ []))
+
 -- a reading can move the clock, and no other call does
 pub clock_told : (t : ℕ) (h : List Event) (n : ℕ) → clock_after t (h ++ told n ∷ []) ≡ max (clock_after t h) n
-clock_told t [] n = refl
-clock_told t (sent bytes ∷ h) n = clock_told t h n
-clock_told t (told m ∷ h) n = clock_told (max t m) h n
-clock_told t (chose m ∷ h) n = clock_told t h n
+clock_told t h n = more_read t h (told n)
 
 -- a call that is no reading
 abbrev pub Timeless : Event → Type 0
 Timeless e = (n : ℕ) → e ≡ told n → ⊥
 
 pub clock_stays : (t : ℕ) (h : List Event) (e : Event) → Timeless e → clock_after t (h ++ e ∷ []) ≡ clock_after t h
-clock_stays t [] (sent bytes) still = refl
-clock_stays t [] (told n) still = absurd (still n refl)
-clock_stays t [] (chose n) still = refl
-clock_stays t (sent bytes ∷ h) e still = clock_stays t h e still
-clock_stays t (told m ∷ h) e still = clock_stays (max t m) h e still
-clock_stays t (chose m ∷ h) e still = clock_stays t h e still
+clock_stays t h (sent bytes) still = more_read t h (sent bytes)
+clock_stays t h (told n) still = absurd (still n refl)
+clock_stays t h (chose n) still = more_read t h (chose n)
 
 pub timeless_sent : (bytes : List ℕ) → Timeless (sent bytes)
 timeless_sent bytes n e = let z : ◌≡◌ {A = ℕ} 0 1 = cc in omega arith

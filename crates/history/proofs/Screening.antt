@@ -2,15 +2,18 @@
 use Rattle.std.proofs.Common.{◌≡◌, ℕ, ◌<◌, Bool, true, false, ◌⊎◌, List, get_or, Some, None, Option, sym, refl, ap, ◌∙◌, subst, inl, inr, ⊎_elim, arith}
 use Rattle.std.proofs.lemmas.Bool.{cases_lt}
 use Rattle.section.specs.Texts.{alert_text}
+use Rattle.section.specs.Values.{fields_of}
 use Rattle.sets.specs.Meaning.{Meaning, service_at}
 use Rattle.decision.specs.Alerts.{Keeps}
+use Rattle.decision.specs.Lookups.{Sounds}
 use Rattle.decision.specs.Pictures.{applies, applies_to}
 use Rattle.decision.specs.Sentences.{Takes as KeptTakes, Sentences}
 use Rattle.decision.specs.declared.alert.Alert.{Alert}
 use Rattle.decision.proofs.Said.{joined}
+use Rattle.decision.proofs.Sounding.{one_sound, some_sound}
 use Rattle.history.specs.Histories.{Start}
 use Rattle.history.specs.Sections.{priority}
-use Rattle.history.specs.Screens.{details, sound, Applies, Takes, Screen}
+use Rattle.history.specs.Screens.{details, CanBeBorrowed, Applies, Takes, Screen}
 use Rattle.history.proofs.Applying.{applies_so, applies_test, applying}
 
 never : {A : Type 0} (bytes : List ℕ) → ◌≡◌ {A = Option (List ℕ)} None (Some bytes) → A
@@ -38,6 +41,13 @@ module _ (s : Start) (bytes : List ℕ) (clock : ℕ) (a : Alert) (home : ℕ) (
       applies_so s bytes home _ (k.marks home inside)
       (ap (λ p. applies (get_or a.excepted.marks home false) p.0 (service_at s.found.services home)) (sym k.priority) ∙ e)
 
+  -- the sound kept is the one that can be borrowed
+  heard : (j : ℕ) → CanBeBorrowed s bytes j → a.sound ≡ Some j
+  heard j h = one_sound s.path (fields_of bytes) s.found.services a.sound (Some j) k.sound h
+
+  unheard : ((j : ℕ) → CanBeBorrowed s bytes j → ⊥) → a.sound ≡ None
+  unheard none = one_sound s.path (fields_of bytes) s.found.services a.sound None k.sound none
+
   kept_takes : (j : ℕ) → Takes s bytes home j → KeptTakes a s.found.services home j
   kept_takes j t =
       let p = ap (λ q. q.0) k.priority in
@@ -47,7 +57,7 @@ module _ (s : Start) (bytes : List ℕ) (clock : ℕ) (a : Alert) (home : ℕ) (
         applies_here = kept_applies t.applies_here;
         high = omega arith;
         highest = omega arith;
-        silent = k.sound ∙ t.silent;
+        silent = unheard t.silent;
         detail = k.details ∙ t.detail;
       }
 
@@ -60,7 +70,7 @@ module _ (s : Start) (bytes : List ℕ) (clock : ℕ) (a : Alert) (home : ℕ) (
         applies_here = section_applies t.applies_here;
         high = omega arith;
         highest = omega arith;
-        silent = sym k.sound ∙ t.silent;
+        silent = subst (Sounds s.path (fields_of bytes) s.found.services) t.silent k.sound;
         detail = sym k.details ∙ t.detail;
       }
 
@@ -71,9 +81,9 @@ module _ (s : Start) (bytes : List ℕ) (clock : ℕ) (a : Alert) (home : ℕ) (
         details_shown = λ more j e t. w.details_shown a j refl (kept_takes j (subst (λ (x : List ℕ). Takes s x home j) (same bytes more e) t));
         viewers_shown = λ none. w.viewers_shown (λ c j e t. none bytes j refl (section_takes j (subst (λ (x : Alert). KeptTakes x s.found.services home j) (same_alert a c e) t)));
         sound_borrowed = λ more j e x q.
-            w.sound_borrowed a j refl (kept_applies (subst (λ (y : List ℕ). Applies s y home) (same bytes more e) x)) (k.sound ∙ ap (sound s) (sym (same bytes more e)) ∙ q);
+            w.sound_borrowed a j refl (kept_applies (subst (λ (y : List ℕ). Applies s y home) (same bytes more e) x)) (heard j (subst (λ (y : List ℕ). CanBeBorrowed s y j) (same bytes more e) q));
         own_sound = λ none.
-            w.own_sound (λ c j e x q. none bytes j refl (section_applies (subst (λ (y : Alert). applies_to y s.found.services home ≡ true) (same_alert a c e) x)) (sym k.sound ∙ ap (λ (y : Alert). y.sound) (sym (same_alert a c e)) ∙ q));
+            w.own_sound (λ c j e x q. none bytes j refl (section_applies (subst (λ (y : Alert). applies_to y s.found.services home ≡ true) (same_alert a c e) x)) (subst (Sounds s.path (fields_of bytes) s.found.services) (ap (λ (y : Alert). y.sound) (sym (same_alert a c e)) ∙ q) k.sound));
         text_captioned = λ more e x.
             subst (λ (y : List ℕ). m.caption ≡ alert_text y) (sym (same bytes more e)) (w.text_captioned a refl (kept_applies (subst (λ (y : List ℕ). Applies s y home) (same bytes more e) x)) ∙ k.words);
         no_caption = λ none. w.no_caption (λ c e x. none bytes refl (section_applies (subst (λ (y : Alert). applies_to y s.found.services home ≡ true) (same_alert a c e) x)));
@@ -96,7 +106,7 @@ screen_of_none s home m w =
 
 -- an alert that applies takes the picture or it does not
 module _ (s : Start) (bytes : List ℕ) (home : ℕ) (x : Applies s bytes home) where
-  by_level : (k : ℕ) → sound s bytes ≡ None → details s bytes ≡ Some k → ((j : ℕ) × Takes s bytes home j) ⊎ ((j : ℕ) → Takes s bytes home j → ⊥)
+  by_level : (k : ℕ) → ((j : ℕ) → CanBeBorrowed s bytes j → ⊥) → details s bytes ≡ Some k → ((j : ℕ) × Takes s bytes home j) ⊎ ((j : ℕ) → Takes s bytes home j → ⊥)
   by_level k q d =
       ⊎_elim (λ l. inr (λ j t. let h = t.high in omega arith))
       (λ l. ⊎_elim (λ u. inr (λ j t. let h = t.highest in omega arith))
@@ -104,16 +114,16 @@ module _ (s : Start) (bytes : List ℕ) (home : ℕ) (x : Applies s bytes home) 
       (cases_lt 15 (priority bytes)))
       (cases_lt (priority bytes) 12)
 
-  by_details : (d : Option ℕ) → sound s bytes ≡ None → details s bytes ≡ d → ((j : ℕ) × Takes s bytes home j) ⊎ ((j : ℕ) → Takes s bytes home j → ⊥)
+  by_details : (d : Option ℕ) → ((j : ℕ) → CanBeBorrowed s bytes j → ⊥) → details s bytes ≡ d → ((j : ℕ) × Takes s bytes home j) ⊎ ((j : ℕ) → Takes s bytes home j → ⊥)
   by_details None q e = inr (λ j t. nothing j (sym e ∙ t.detail))
   by_details (Some k) q e = by_level k q e
 
-  by_sound : (o : Option ℕ) → sound s bytes ≡ o → ((j : ℕ) × Takes s bytes home j) ⊎ ((j : ℕ) → Takes s bytes home j → ⊥)
+  by_sound : (o : Option ℕ) → Sounds s.path (fields_of bytes) s.found.services o → ((j : ℕ) × Takes s bytes home j) ⊎ ((j : ℕ) → Takes s bytes home j → ⊥)
   by_sound None e = by_details (details s bytes) e refl
-  by_sound (Some k) e = inr (λ j t. nothing k (sym t.silent ∙ e))
+  by_sound (Some k) e = inr (λ j t. t.silent k e)
 
   taking : ((j : ℕ) × Takes s bytes home j) ⊎ ((j : ℕ) → Takes s bytes home j → ⊥)
-  taking = by_sound (sound s bytes) refl
+  taking = let found = some_sound s.found.services s.path (fields_of bytes) in by_sound found.0 found.1
 
 -- the sentences leave one meaning
 module _ (s : Start) (home : ℕ) (m n : Meaning) where
@@ -141,16 +151,17 @@ module _ (s : Start) (home : ℕ) (m n : Meaning) where
         v.viewers_shown off ∙ sym (w.viewers_shown off))
         (taking s bytes home x)
 
-    sound_on : Applies s bytes home → (o : Option ℕ) → sound s bytes ≡ o → m.sound ≡ n.sound
+    sound_on : Applies s bytes home → (o : Option ℕ) → Sounds s.path (fields_of bytes) s.found.services o → m.sound ≡ n.sound
     sound_on x (Some k) e = v.sound_borrowed bytes k refl x e ∙ sym (w.sound_borrowed bytes k refl x e)
     sound_on x None e =
-        let off : (more : List ℕ) (k : ℕ) → Some bytes ≡ Some more → Applies s more home → sound s more ≡ Some k → ⊥ = λ more k p y q. nothing k (sym e ∙ ap (sound s) (sym (same bytes more p)) ∙ q) in
+        let off : (more : List ℕ) (k : ℕ) → Some bytes ≡ Some more → Applies s more home → CanBeBorrowed s more k → ⊥ = λ more k p y q. e k (subst (λ (z : List ℕ). CanBeBorrowed s z k) (same bytes more p) q) in
         v.own_sound off ∙ sym (w.own_sound off)
 
     screen_some : m ≡ n
     screen_some =
+        let found = some_sound s.found.services s.path (fields_of bytes) in
         ⊎_elim
-        (λ x. joined m n (v.services ∙ sym w.services) (shown_on x) (sound_on x (sound s bytes) refl) (v.text_captioned bytes refl x ∙ sym (w.text_captioned bytes refl x)))
+        (λ x. joined m n (v.services ∙ sym w.services) (shown_on x) (sound_on x found.0 found.1) (v.text_captioned bytes refl x ∙ sym (w.text_captioned bytes refl x)))
         screen_off
         (applying s bytes home)
 

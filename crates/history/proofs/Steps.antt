@@ -7,7 +7,7 @@ use Rattle.sets.specs.Meaning.{Lawful, count_of}
 use Rattle.decision.specs.Alerts.{Keeps}
 use Rattle.decision.specs.declared.alert.Alert.{Alert}
 use Rattle.history.specs.Histories.{Event, sent, told, chose, Start, event_at, clock_after}
-use Rattle.history.specs.Sections.{WellFormed, sequence_at, New, Taken}
+use Rattle.history.specs.Sections.{WellFormed, sequence_at, Repeats, IsNew, Taken}
 use Rattle.history.specs.Viewers.{Chosen, Home}
 use Rattle.history.specs.Forces.{Past, end_at, AlertInForce}
 use Rattle.history.specs.Stands.{Remembered, Held}
@@ -41,16 +41,14 @@ same_number : (p q : SequenceNumber) → p.0 ≡ q.0 → p ≡ q
 same_number p q e = λ i. record { 0 = e i }
 
 -- a section is new exactly if its sequence number is not the one remembered
-pub fresh : (h : List Event) (bytes : List ℕ) (o : Option SequenceNumber) → Remembered h o → (o ≡ Some (fields_of bytes).sequence → ⊥) → New h bytes
-fresh h bytes None r not i l same = r i l.within l.has
-fresh h bytes (Some q) r not i l same =
-    let one = latest_one WellFormed h i r.0 l r.1 in
-    not (ap Some (same_number q (fields_of bytes).sequence (sym r.2 ∙ ap (λ (j : ℕ). sequence_at (event_at h j)) (sym one) ∙ same)))
+pub fresh : (h : List Event) (bytes : List ℕ) (o : Option SequenceNumber) → Remembered h o → (o ≡ Some (fields_of bytes).sequence → ⊥) → IsNew h bytes
+fresh h bytes None r not again = r again.0 again.1.within again.1.has
+fresh h bytes (Some q) r not again =
+    let one = latest_one WellFormed h again.0 r.0 again.1 r.1 in
+    not (ap Some (same_number q (fields_of bytes).sequence (sym r.2 ∙ ap (λ (j : ℕ). sequence_at (event_at h j)) (sym one) ∙ again.2)))
 
-pub stale : (h : List Event) (bytes : List ℕ) (o : Option SequenceNumber) → Remembered h o → o ≡ Some (fields_of bytes).sequence → New h bytes → ⊥
-stale h bytes o r e new =
-    let known = subst (Remembered h) e r in
-    new known.0 known.1 known.2
+pub stale : (h : List Event) (bytes : List ℕ) (o : Option SequenceNumber) → Remembered h o → o ≡ Some (fields_of bytes).sequence → Repeats h bytes
+stale h bytes o r e = subst (Remembered h) e r
 
 -- the alert in force
 pub force_keep : (s : Start) (h : List Event) (e : Event) → (Taken s.place h e → ⊥) → AlertInForce s h None → AlertInForce s (h ++ e ∷ []) None

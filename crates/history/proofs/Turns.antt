@@ -1,25 +1,26 @@
 -- What one call more does to a receiver and its set. Assumes nothing.
-use Rattle.std.proofs.Common.{◌≡◌, ℕ, ◌<◌, ◌≤◌, ◌⊎◌, List, [], ◌∷◌, ◌++◌, length, Some, None, Ok, Option, sym, ap, ◌∙◌, subst, inl, inr, ⊎_elim, arith}
+use Rattle.std.proofs.Common.{◌≡◌, ℕ, ◌<◌, ◌≤◌, ◌⊎◌, List, [], ◌∷◌, ◌++◌, length, Some, None, Ok, Option, sym, refl, ap, ◌∙◌, subst, inl, inr, ⊎_elim, arith}
 use Rattle.std.proofs.lemmas.Bool.{cases_lt}
 use Rattle.station.specs.declared.service.Path.{Path}
 use Rattle.station.specs.declared.service.Service.{Service}
 use Rattle.section.specs.Rules.{refusal}
 use Rattle.section.specs.Values.{fields_of}
 use Rattle.section.specs.declared.fields.SequenceNumber.{SequenceNumber}
-use Rattle.section.specs.declared.refusal.SectionRefusal.{SectionRefusal}
-use Rattle.sets.specs.Meaning.{Meaning, Lawful, count_of}
+use Rattle.sets.specs.Meaning.{Meaning, Lawful, plain, count_of}
 use Rattle.decision.specs.Alerts.{Keeps}
 use Rattle.decision.specs.Fits.{Fits, AllFits}
-use Rattle.decision.specs.Pictures.{plain, pictured}
+use Rattle.decision.specs.Pictures.{pictured}
 use Rattle.decision.specs.Sentences.{Sentences}
 use Rattle.decision.specs.declared.alert.Alert.{Alert}
 use Rattle.decision.proofs.Said.{says}
+use Rattle.calls.specs.Verdicts.{alone}
 use Rattle.history.specs.Histories.{Event, sent, told, chose, Start, clock_after}
 use Rattle.history.specs.Sections.{WellFormed, Taken}
 use Rattle.history.specs.Viewers.{Chosen}
 use Rattle.history.specs.Forces.{Past}
 use Rattle.history.specs.Screens.{Screen}
 use Rattle.history.specs.Law.{Law}
+use Rattle.history.specs.Replies.{Due, is_read, is_early, is_chosen, is_past_the_list}
 use Rattle.history.specs.Stands.{Remembered, Held, Stands}
 use Rattle.history.specs.Sheet.{noted, alerted, chosen, timed, cleared, Over, Advances, Selects, Moves}
 use Rattle.history.specs.declared.state.State.{State}
@@ -27,7 +28,7 @@ use Rattle.history.proofs.Positions.{clock_told, clock_stays, timeless_sent, tim
 use Rattle.history.proofs.Screening.{screen_of_kept, screen_of_none}
 use Rattle.history.proofs.Steps.{home_keep, home_new, home_inside, last_keep, last_new, Lasts, held_keep, held_over, held_new, forced}
 
-ill : (bytes : List ℕ) (e : SectionRefusal) → refusal bytes ≡ Some e → refusal bytes ≡ None → ⊥
+ill : (bytes : List ℕ) (e : ℕ) → refusal bytes ≡ Some e → refusal bytes ≡ None → ⊥
 ill bytes e p q = let r : Some e ≡ None = sym p ∙ q in let z : ◌≡◌ {A = ℕ} 0 1 = cc in omega arith
 
 over_or_not : (o : Option Alert) (n : ℕ) → Over o n ⊎ (Over o n → ⊥)
@@ -81,18 +82,18 @@ module _ (s : Start) (h : List Event) (st : State) (m : Meaning) (x : Stands s h
         set = x.set;
       }
 
-  pub refused_reading : (n : ℕ) → n < st.clock → Stands s (h ++ told n ∷ []) st m × (n < clock_after s.clock h)
+  pub refused_reading : (n : ℕ) → n < st.clock → Stands s (h ++ told n ∷ []) st m × Due s h (alone 31) (told n)
   refused_reading n l =
       let c = x.clock in
       let k = clock_told s.clock h n in
-      (quiet (told n) (λ z. z) (λ z. z) (λ z. z) (omega arith) (λ j is granted over. let q : n ≡ j = cc in omega arith), omega arith)
+      (quiet (told n) (λ z. z) (λ z. z) (λ z. z) (omega arith) (λ j is granted over. let q : n ≡ j = cc in omega arith), is_early n (omega arith) refl)
 
-  pub refused_choice : (n : ℕ) → count_of m ≤ n → Stands s (h ++ chose n ∷ []) st m × (count_of s.found ≤ n)
+  pub refused_choice : (n : ℕ) → count_of m ≤ n → Stands s (h ++ chose n ∷ []) st m × Due s h (alone 32) (chose n)
   refused_choice n l =
       let past : count_of s.found ≤ n = subst (λ (ss : List Service). length ss ≤ n) same_services l in
-      (quiet (chose n) (λ z. z) (λ z. z) (λ granted. omega arith) (clock_stays s.clock h (chose n) (timeless_chose n)) (λ j is granted over. timeless_chose n j is), past)
+      (quiet (chose n) (λ z. z) (λ z. z) (λ granted. omega arith) (clock_stays s.clock h (chose n) (timeless_chose n)) (λ j is granted over. timeless_chose n j is), is_past_the_list n past refl)
 
-  pub refused_section : (bytes : List ℕ) (e : SectionRefusal) → refusal bytes ≡ Some e → Stands s (h ++ sent bytes ∷ []) st m
+  pub refused_section : (bytes : List ℕ) (e : ℕ) → refusal bytes ≡ Some e → Stands s (h ++ sent bytes ∷ []) st m
   refused_section bytes e is =
       quiet (sent bytes) (ill bytes e is) (λ t. ill bytes e is t.0) (λ z. z) (clock_stays s.clock h (sent bytes) (timeless_sent bytes)) (λ j q granted over. timeless_sent bytes j q)
 
@@ -135,7 +136,7 @@ module _ (s : Start) (h : List Event) (st : State) (m : Meaning) (x : Stands s h
         set = moved (alerted (noted st (fields_of bytes).sequence) a) after inside fit moves;
       }
 
-  choosing : (n : ℕ) (after : Meaning) → n < count_of m → Moves m st (chosen st n) after → Stands s (h ++ chose n ∷ []) (chosen st n) after × (n < count_of s.found)
+  choosing : (n : ℕ) (after : Meaning) → n < count_of m → Moves m st (chosen st n) after → Stands s (h ++ chose n ∷ []) (chosen st n) after × Due s h (alone 0) (chose n)
   choosing n after l moves =
       let e = chose n in
       let inside : n < count_of s.found = subst (λ (ss : List Service). n < length ss) same_services l in (
@@ -151,15 +152,15 @@ module _ (s : Start) (h : List Event) (st : State) (m : Meaning) (x : Stands s h
           fits = x.fits;
           set = moved (chosen st n) after inside x.fits moves;
         },
-        inside,
+        is_chosen n inside refl,
       )
 
-  pub granted_choice : (n : ℕ) (next : State) (after : Meaning) → Selects st (count_of m) n (Ok next) → Moves m st next after → Stands s (h ++ chose n ∷ []) next after × (n < count_of s.found)
+  pub granted_choice : (n : ℕ) (next : State) (after : Meaning) → Selects st (count_of m) n (Ok next) → Moves m st next after → Stands s (h ++ chose n ∷ []) next after × Due s h (alone 0) (chose n)
   granted_choice n next after a moves =
-      subst (λ (y : State). Stands s (h ++ chose n ∷ []) y after × (n < count_of s.found)) (sym a.1) (choosing n after a.0 (subst (λ (y : State). Moves m st y after) a.1 moves))
+      subst (λ (y : State). Stands s (h ++ chose n ∷ []) y after × Due s h (alone 0) (chose n)) (sym a.1) (choosing n after a.0 (subst (λ (y : State). Moves m st y after) a.1 moves))
 
   -- a granted reading before the end of the alert kept, and at or past it
-  lasting_reading : (n : ℕ) (after : Meaning) → st.clock ≤ n → (Over st.alert n → ⊥) → Moves m st (timed st n) after → Stands s (h ++ told n ∷ []) (timed st n) after × (clock_after s.clock h ≤ n)
+  lasting_reading : (n : ℕ) (after : Meaning) → st.clock ≤ n → (Over st.alert n → ⊥) → Moves m st (timed st n) after → Stands s (h ++ told n ∷ []) (timed st n) after × Due s h (alone 0) (told n)
   lasting_reading n after l lasts moves =
       let e = told n in
       let c = x.clock in
@@ -177,10 +178,10 @@ module _ (s : Start) (h : List Event) (st : State) (m : Meaning) (x : Stands s h
           fits = x.fits;
           set = moved (timed st n) after inside x.fits moves;
         },
-        omega arith,
+        is_read n (omega arith) refl,
       )
 
-  ending_reading : (n : ℕ) (after : Meaning) → st.clock ≤ n → Over st.alert n → Moves m st (cleared st n) after → Stands s (h ++ told n ∷ []) (cleared st n) after × (clock_after s.clock h ≤ n)
+  ending_reading : (n : ℕ) (after : Meaning) → st.clock ≤ n → Over st.alert n → Moves m st (cleared st n) after → Stands s (h ++ told n ∷ []) (cleared st n) after × Due s h (alone 0) (told n)
   ending_reading n after l over moves =
       let e = told n in
       let c = x.clock in
@@ -199,16 +200,16 @@ module _ (s : Start) (h : List Event) (st : State) (m : Meaning) (x : Stands s h
           fits = tt;
           set = moved (cleared st n) after inside tt moves;
         },
-        granted,
+        is_read n granted refl,
       )
 
-  pub granted_reading : (n : ℕ) (next : State) (after : Meaning) → Advances st n (Ok next) → Moves m st next after → Stands s (h ++ told n ∷ []) next after × (clock_after s.clock h ≤ n)
+  pub granted_reading : (n : ℕ) (next : State) (after : Meaning) → Advances st n (Ok next) → Moves m st next after → Stands s (h ++ told n ∷ []) next after × Due s h (alone 0) (told n)
   granted_reading n next after a moves =
       ⊎_elim
       (λ over. let is = a.1 over in
-      subst (λ (y : State). Stands s (h ++ told n ∷ []) y after × (clock_after s.clock h ≤ n)) (sym is) (ending_reading n after a.0 over (subst (λ (y : State). Moves m st y after) is moves)))
+      subst (λ (y : State). Stands s (h ++ told n ∷ []) y after × Due s h (alone 0) (told n)) (sym is) (ending_reading n after a.0 over (subst (λ (y : State). Moves m st y after) is moves)))
       (λ lasts. let is = a.2 lasts in
-      subst (λ (y : State). Stands s (h ++ told n ∷ []) y after × (clock_after s.clock h ≤ n)) (sym is) (lasting_reading n after a.0 lasts (subst (λ (y : State). Moves m st y after) is moves)))
+      subst (λ (y : State). Stands s (h ++ told n ∷ []) y after × Due s h (alone 0) (told n)) (sym is) (lasting_reading n after a.0 lasts (subst (λ (y : State). Moves m st y after) is moves)))
       (over_or_not st.alert n)
 
   -- the law of the run

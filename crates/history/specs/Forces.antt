@@ -3,7 +3,7 @@ use Rattle.std.specs.Prelude.{◌≡◌, ℕ, ◌<◌, ◌≤◌, List, length, 
 use Rattle.section.specs.Values.{fields_of}
 use Rattle.section.specs.declared.fields.EventId.{EventId}
 use Rattle.decision.specs.Alerts.{end_of}
-use Rattle.history.specs.Histories.{Event, sent, told, Start, event_at, Latest, clock_after}
+use Rattle.history.specs.Histories.{Event, sent, told, Start, event_at, Latest, clock_after, IsGranted}
 use Rattle.history.specs.Sections.{seconds, Taken}
 
 -- a reading is at or past an end; without an end none is
@@ -22,7 +22,7 @@ pub record Ended (s : Start) (h : List Event) (i : ℕ) (bytes : List ℕ) : Typ
   pub later : i < at
   pub within : at < length h
   pub read : event_at h at ≡ told reading
-  pub granted : clock_after s.clock (take at h) ≤ reading
+  pub granted : IsGranted s (take at h) reading
   pub past : Past (end_at s h i bytes) reading
 
 -- the alert in force: the latest taken section, unless it has ended

@@ -1,5 +1,6 @@
 -- A run of calls as a list, the newest last, and positions in it. Assumes nothing.
-use Rattle.std.specs.Prelude.{ℕ, ◌<◌, max, List, [], ◌∷◌, length, take, slice_index_or}
+use Rattle.std.specs.Prelude.{ℕ, ◌<◌, ◌≤◌, max, List, length, take, Some, None, fold, Option, slice_index_or}
+use Rattle.std.specs.List.{filter_map}
 use Rattle.station.specs.declared.place.Place.{Place}
 use Rattle.station.specs.declared.service.Path.{Path}
 use Rattle.sets.specs.Meaning.{Meaning}
@@ -35,9 +36,15 @@ pub record Latest (P : List Event → Event → Type 0) (h : List Event) (i : �
   pub has : At P h i
   pub none_later : (j : ℕ) → i < j → j < length h → At P h j → ⊥
 
+-- what a call reads of the clock, if it is a reading
+abbrev pub reading_of : Event → Option ℕ
+reading_of (told n) = Some n
+reading_of e = None
+
 -- the clock after h: the greatest of what it was at the start and the readings of h
 abbrev pub clock_after : ℕ → List Event → ℕ
-clock_after clock [] = clock
-clock_after clock (sent bytes ∷ h) = clock_after clock h
-clock_after clock (told n ∷ h) = clock_after (max clock n) h
-clock_after clock (chose n ∷ h) = clock_after clock h
+clock_after clock h = fold max clock (filter_map reading_of h)
+
+-- a reading that comes after h is granted: it is not below the clock
+abbrev pub IsGranted : Start → List Event → ℕ → Type 0
+IsGranted s h n = clock_after s.clock h ≤ n

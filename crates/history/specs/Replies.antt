@@ -1,55 +1,33 @@
--- The reply to a call, by the calls before it. Assumes nothing.
-use Rattle.std.specs.Prelude.{◌≡◌, ℕ, ◌<◌, ◌≤◌, List, ◌++◌, length, take, Some, None, Ok, Err, Result, slice_index_or}
+-- What is due to a call, by the calls before it. Assumes nothing.
+use Rattle.std.specs.Prelude.{◌≡◌, ℕ, ◌<◌, ◌≤◌, List, ◌++◌, length, take, Some, None, slice_index_or}
 use Rattle.section.specs.Rules.{refusal}
-use Rattle.section.specs.declared.refusal.SectionRefusal.{SectionRefusal}
 use Rattle.sets.specs.Meaning.{count_of}
-use Rattle.calls.specs.declared.answer.Answer.{Answer}
-use Rattle.calls.specs.declared.answer.Answer.TheVariants.{Repeat, Test, Elsewhere, InForce}
+use Rattle.calls.specs.Verdicts.{Verdict, alone, verdict_of}
 use Rattle.calls.specs.declared.call.Call.{Call}
 use Rattle.calls.specs.declared.call.Call.TheVariants.{Section, Reading, Choice}
-use Rattle.calls.specs.declared.refusal.CallRefusal.TheVariants.{Section as OfSection, Reading as OfReading, Choice as OfChoice}
-use Rattle.calls.specs.declared.refusal.ChoiceRefusal.{ChoiceRefusal}
-use Rattle.calls.specs.declared.refusal.ReadingRefusal.{ReadingRefusal}
 use Rattle.calls.specs.declared.reply.Reply.{Reply}
-use Rattle.calls.specs.declared.reply.Reply.TheVariants.{Answered, Granted, Refused}
-use Rattle.history.specs.Histories.{Event, sent, told, chose, Start, event_at, clock_after}
-use Rattle.history.specs.Sections.{priority, New, Names}
+use Rattle.calls.specs.declared.reply.Reply.TheVariants.{Granted}
+use Rattle.history.specs.Histories.{Event, sent, told, chose, Start, event_at, clock_after, IsGranted}
+use Rattle.history.specs.Sections.{priority, Repeats, IsNew, Names}
 
--- to a section: refused by the first rule that it breaks; else a repeat if it is not new, a test at priority 0, elsewhere if no location entry names the place, and else in force, with an entry that does
-abbrev pub Answers : Start → List Event → List ℕ → Result Answer SectionRefusal → Type 0
-Answers s h bytes (Err e) = refusal bytes ≡ Some e
-Answers s h bytes (Ok Repeat) = (refusal bytes ≡ None) × (New h bytes → ⊥)
-Answers s h bytes (Ok Test) = (refusal bytes ≡ None) × New h bytes × (priority bytes ≡ 0)
-Answers s h bytes (Ok Elsewhere) = (refusal bytes ≡ None) × New h bytes × (0 < priority bytes) × ((k : ℕ) → Names bytes s.place k → ⊥)
-Answers s h bytes (Ok (InForce k)) = (refusal bytes ≡ None) × New h bytes × (0 < priority bytes) × Names bytes s.place k
-
--- to a reading: refused exactly if it is earlier than the clock
-abbrev pub Reads : {U : Type 0} → Start → List Event → ℕ → Result U ReadingRefusal → Type 0
-Reads s h n (Ok u) = clock_after s.clock h ≤ n
-Reads s h n (Err e) = n < clock_after s.clock h
-
--- to a choice: refused exactly if it is past the list
-abbrev pub Chooses : {U : Type 0} → Start → ℕ → Result U ChoiceRefusal → Type 0
-Chooses s n (Ok u) = n < count_of s.found
-Chooses s n (Err e) = count_of s.found ≤ n
-
--- to any call; a section is never merely granted, and only a section is answered
-abbrev pub Replies : Start → List Event → Event → Reply → Type 0
-Replies s h (sent bytes) (Answered a) = Answers s h bytes (Ok a)
-Replies s h (sent bytes) Granted = ⊥
-Replies s h (sent bytes) (Refused (OfSection e)) = Answers s h bytes (Err e)
-Replies s h (sent bytes) (Refused (OfReading e)) = ⊥
-Replies s h (sent bytes) (Refused (OfChoice e)) = ⊥
-Replies s h (told n) (Answered a) = ⊥
-Replies s h (told n) Granted = Reads s h n (Ok (tt {0}))
-Replies s h (told n) (Refused (OfSection e)) = ⊥
-Replies s h (told n) (Refused (OfReading e)) = Reads {U = Unit {0}} s h n (Err e)
-Replies s h (told n) (Refused (OfChoice e)) = ⊥
-Replies s h (chose n) (Answered a) = ⊥
-Replies s h (chose n) Granted = Chooses s n (Ok (tt {0}))
-Replies s h (chose n) (Refused (OfSection e)) = ⊥
-Replies s h (chose n) (Refused (OfReading e)) = ⊥
-Replies s h (chose n) (Refused (OfChoice e)) = Chooses {U = Unit {0}} s n (Err e)
+-- after the calls h of a receiver that began as s says, v is due to a call: a row for each case
+pub data Due (s : Start) (h : List Event) (v : Verdict) : Event → Type 0 where
+  -- to a section: the number of the first rule that it breaks
+  breaks_a_rule : (bytes : List ℕ) (n : ℕ) → refusal bytes ≡ Some n → v ≡ alone n → Due s h v (sent bytes)
+  -- else 1 if it is not new
+  is_repeat : (bytes : List ℕ) → refusal bytes ≡ None → Repeats h bytes → v ≡ alone 1 → Due s h v (sent bytes)
+  -- else 2 at priority 0
+  is_test : (bytes : List ℕ) → refusal bytes ≡ None → IsNew h bytes → priority bytes ≡ 0 → v ≡ alone 2 → Due s h v (sent bytes)
+  -- else 3 if no location entry names the place
+  is_elsewhere : (bytes : List ℕ) → refusal bytes ≡ None → IsNew h bytes → 0 < priority bytes → ((k : ℕ) → Names bytes s.place k → ⊥) → v ≡ alone 3 → Due s h v (sent bytes)
+  -- else 4 with the number of a location entry that names it
+  is_in_force : (bytes : List ℕ) (k : ℕ) → refusal bytes ≡ None → IsNew h bytes → 0 < priority bytes → Names bytes s.place k → v ≡ record { number = 4; entry = Some k } → Due s h v (sent bytes)
+  -- to a reading: 0 if it is not below the clock, else 31
+  is_read : (n : ℕ) → IsGranted s h n → v ≡ alone 0 → Due s h v (told n)
+  is_early : (n : ℕ) → n < clock_after s.clock h → v ≡ alone 31 → Due s h v (told n)
+  -- to a choice: 0 on the list, else 32
+  is_chosen : (n : ℕ) → n < count_of s.found → v ≡ alone 0 → Due s h v (chose n)
+  is_past_the_list : (n : ℕ) → count_of s.found ≤ n → v ≡ alone 32 → Due s h v (chose n)
 
 -- a call as it stands in a history
 abbrev pub event : Call → Event
@@ -57,7 +35,7 @@ event (Section bytes) = sent bytes.now
 event (Reading n) = told n
 event (Choice n) = chose n
 
--- after h came the calls more: each reply for which there is room is the one to the call at its place
+-- after h came the calls more: each reply for which there is room says what is due to the call at its place
 abbrev pub Replied : Start → List Event → List Event → List Reply → Type 0
 Replied s h more replies =
-    (i : ℕ) → i < length more → i < length replies → Replies s (h ++ take i more) (event_at more i) (slice_index_or replies i Granted)
+    (i : ℕ) → i < length more → i < length replies → Due s (h ++ take i more) (verdict_of (slice_index_or replies i Granted)) (event_at more i)

@@ -1,5 +1,6 @@
--- What a call makes of the sheet that a receiver keeps, and which answer the sheet gives. Assumes nothing.
+-- What a call makes of the sheet that a receiver keeps, and which answer the sheet gives. No clause of a public call names anything of this page, and nothing of it has to be believed. Assumes nothing.
 use Rattle.std.specs.Prelude.{◌≡◌, ℕ, ◌<◌, ◌≤◌, List, Some, None, Ok, Err, Option, Result, ◌≢◌}
+use Rattle.section.specs.Refusals.{number}
 use Rattle.section.specs.Rules.{refusal}
 use Rattle.section.specs.Values.{fields_of}
 use Rattle.section.specs.declared.fields.SequenceNumber.{SequenceNumber}
@@ -18,20 +19,20 @@ use Rattle.history.specs.declared.state.State.{State}
 
 -- the sheet with another sequence number, with another alert, with another viewer's service, with another clock
 abbrev pub noted : State → SequenceNumber → State
-noted st q = record { place = st.place; path = st.path; clock = st.clock; home = st.home; last = Some q; alert = st.alert }
+noted st q = record st { last = Some q }
 
 abbrev pub alerted : State → Alert → State
-alerted st a = record { place = st.place; path = st.path; clock = st.clock; home = st.home; last = st.last; alert = Some a }
+alerted st a = record st { alert = Some a }
 
 abbrev pub chosen : State → ℕ → State
-chosen st n = record { place = st.place; path = st.path; clock = st.clock; home = n; last = st.last; alert = st.alert }
+chosen st n = record st { home = n }
 
 abbrev pub timed : State → ℕ → State
-timed st n = record { place = st.place; path = st.path; clock = n; home = st.home; last = st.last; alert = st.alert }
+timed st n = record st { clock = n }
 
 -- and with no alert besides
 abbrev pub cleared : State → ℕ → State
-cleared st n = record { place = st.place; path = st.path; clock = n; home = st.home; last = st.last; alert = None }
+cleared st n = record (timed st n) { alert = None }
 
 -- the alert kept has come to its end at the reading
 abbrev pub Over : Option Alert → ℕ → Type 0
@@ -40,7 +41,7 @@ Over (Some a) n = Past a.end n
 
 -- which answer the sheet gives to a section
 abbrev pub Judges : State → List ℕ → Result Answer SectionRefusal → Type 0
-Judges st bytes (Err e) = refusal bytes ≡ Some e
+Judges st bytes (Err e) = refusal bytes ≡ Some (number e)
 Judges st bytes (Ok Repeat) = (refusal bytes ≡ None) × (st.last ≡ Some (fields_of bytes).sequence)
 Judges st bytes (Ok Test) = (refusal bytes ≡ None) × (st.last ≢ Some (fields_of bytes).sequence) × (priority bytes ≡ 0)
 Judges st bytes (Ok Elsewhere) =
@@ -51,9 +52,7 @@ Judges st bytes (Ok (InForce k)) =
 -- the sheet after a section that has the answer: a repeat changes nothing, and any other enters its sequence number
 abbrev pub entered : State → Answer → SequenceNumber → State
 entered st Repeat q = st
-entered st Test q = noted st q
-entered st Elsewhere q = noted st q
-entered st (InForce k) q = noted st q
+entered st a q = noted st q
 
 -- after a reading: it is refused if it is earlier than the clock; else it is the clock, and an alert that is over goes
 abbrev pub Advances : State → ℕ → Result State ReadingRefusal → Type 0

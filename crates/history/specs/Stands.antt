@@ -1,4 +1,4 @@
--- What a receiver keeps after a run, and what its set means then. Assumes nothing.
+-- What a receiver keeps after a run, and what its set means then: the premise under which each call is promised. Begin gives it and every call hands it on, so nothing of it has to be believed. Assumes nothing.
 use Rattle.std.specs.Prelude.{◌≡◌, ℕ, List, take, Some, None, Option}
 use Rattle.section.specs.declared.fields.SequenceNumber.{SequenceNumber}
 use Rattle.sets.specs.Meaning.{Meaning, Lawful}

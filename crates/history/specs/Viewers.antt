@@ -1,13 +1,12 @@
 -- The viewer's service after a run. Assumes nothing.
 use Rattle.std.specs.Prelude.{◌≡◌, ℕ, ◌<◌, ◌⊎◌, List}
 use Rattle.sets.specs.Meaning.{count_of}
-use Rattle.history.specs.Histories.{Event, sent, told, chose, Start, event_at, Never, Latest}
+use Rattle.history.specs.Histories.{Event, chose, Start, event_at, Never, Latest}
 
 -- a choice of one of so many services
 abbrev pub Chosen : ℕ → List Event → Event → Type 0
-Chosen services h (sent bytes) = ⊥
-Chosen services h (told n) = ⊥
 Chosen services h (chose n) = n < services
+Chosen services h e = ⊥
 
 -- k is the latest granted choice or, where there is none, the service that the set was found on
 abbrev pub Home : Start → List Event → ℕ → Type 0

@@ -2,8 +2,9 @@
 ghost use Rattle.history.specs.Edges.{EdgeCases};
 ghost use Rattle.history.specs.Law.{Determined};
 
-// What begin and the calls were given determines the viewer's service, the alert in force and what the set means.
-pub fn calls_determine_the_set()
+// What begin and the calls were given determines the viewer's service, the alert in force, what the set means and what is
+// due to each call.
+pub fn calls_determine_the_set_and_the_replies()
     ensures { Determined }
 {}
 

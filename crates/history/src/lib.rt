@@ -4,5 +4,5 @@
 mod law;
 mod state;
 
-pub use law::{calls_determine_the_set, edge_cases_stand};
+pub use law::{calls_determine_the_set_and_the_replies, edge_cases_stand};
 pub use state::State;

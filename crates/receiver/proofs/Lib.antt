@@ -1,4 +1,4 @@
 pub mod Shifts
 pub mod Turned
 pub mod Made
-pub mod Showings
+pub mod Looking

@@ -1,7 +1,10 @@
 -- From the picture of one sheet to that of the next. Assumes nothing.
-use Rattle.std.proofs.Common.{◌≡◌, length, Ok, Err, Result, sym, refl, ap, ◌∙◌, arith}
+use Rattle.std.proofs.Common.{◌≡◌, ℕ, length, Some, None, Ok, Err, Option, Result, sym, refl, ap, ◌∙◌, arith}
+use Rattle.std.proofs.lemmas.Bool.{le-leb}
+use Rattle.station.specs.Rules.{unless}
 use Rattle.sets.specs.declared.refusal.SetRefusal.{SetRefusal}
-use Rattle.sets.specs.Meaning.{Meaning, Captions}
+use Rattle.sets.specs.Meaning.{Meaning, Captions, caption_refusal}
+use Rattle.sets.specs.Refusals.{refusal_number}
 use Rattle.decision.specs.Drives.{Pictures, Drives}
 use Rattle.decision.specs.Fits.{Presents}
 use Rattle.decision.specs.Pictures.{pictured}
@@ -40,12 +43,13 @@ module _ (m : Meaning) (from to : State) (p q : Picture) (P : Pictures p (pictur
   -- with its caption alone replaced
   pub recaptioned : {U : Type 0} (r : Result U SetRefusal) (after : Meaning) → SameLook p q → Captions m q.caption.now r after → Moves m from to after
   recaptioned (Ok u) after same c is inside fits =
-      reached after same is (ap (λ (x : Meaning). x.services) c.1) (ap (λ (x : Meaning). x.shown) c.1) (ap (λ (x : Meaning). x.sound) c.1) (ap (λ (x : Meaning). x.caption) c.1)
+      reached after same is (ap (λ (x : Meaning). x.services) c.0.1) (ap (λ (x : Meaning). x.shown) c.0.1) (ap (λ (x : Meaning). x.sound) c.0.1) (ap (λ (x : Meaning). x.caption) c.0.1)
   recaptioned (Err e) after same c is inside fits =
       let short = (possible m.services to.alert to.home inside fits).short in
-      let long = c.0 in
       let w = ap length Q.caption in
-      absurd (omega arith)
+      let none : caption_refusal q.caption.now ≡ None = ap (λ b. unless b 63 None) (le-leb (length q.caption.now) 1024 (omega arith)) in
+      let both : ◌≡◌ {A = Option ℕ} None (Some (refusal_number e)) = sym none ∙ c.0 in
+      let z : ◌≡◌ {A = ℕ} 0 1 = cc in absurd (omega arith)
 
   -- left as it is
   pub left : SameLook p q → SameWords p q → Moves m from to m

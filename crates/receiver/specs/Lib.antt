@@ -1,3 +1,4 @@
+pub mod Lists
 pub mod Pictures
+pub mod Runs
 pub mod Stood
-pub mod Watched

@@ -1,5 +1,6 @@
 // What the sheet says to a section.
 ghost use Rattle.std.specs.Prelude.{◌≡◌, Some, None, Ok, Err, Decides, MatchResult};
+ghost use Rattle.section.specs.Origins.{bytes_of};
 ghost use Rattle.section.specs.Values.{fields_of};
 ghost use Rattle.history.specs.Sheet.{Judges};
 
@@ -23,7 +24,7 @@ fn is_repeat(last: Option<SequenceNumber>, sequence: SequenceNumber) -> bool
 
 // The first answer that fits, or the section's refusal.
 pub(crate) fn judge(state: &State, section: &Section<'_>) -> Result<Judged, SectionRefusal>
-    ensures cases { MatchResult result (λ j. Judges state.now section.now.bytes.now (Ok j.answer) × (j.sequence ≡ (fields_of section.now.bytes.now).sequence)) (λ e. Judges state.now section.now.bytes.now (Err e)) }
+    ensures cases { MatchResult result (λ j. Judges state.now (bytes_of section.now) (Ok j.answer) × (j.sequence ≡ (fields_of (bytes_of section.now)).sequence)) (λ e. Judges state.now (bytes_of section.now) (Err e)) }
 {
     let fields = section.fields()?;
     let sequence = fields.sequence;

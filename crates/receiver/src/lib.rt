@@ -8,4 +8,4 @@ mod runs;
 mod sheet;
 
 pub use receiver::Receiver;
-pub use runs::{Watch, carry_on, rehearse};
+pub use runs::{carry_on, rehearse};

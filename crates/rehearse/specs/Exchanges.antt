@@ -18,11 +18,7 @@ WritesAll {F} g = (f : F) (x : Exchange) (asked : Asked) (r : Result (Unit {0}) 
 
 -- what a line that ends the set-up may ask for besides
 abbrev pub EndsSetup : Asked → Type 0
-EndsSetup asks.Nothing = ⊤
 EndsSetup (asks.Setting setting) = ⊥
 EndsSetup asks.Begin = ⊥
-EndsSetup (asks.Section size) = ⊤
-EndsSetup (asks.Document size) = ⊤
-EndsSetup (asks.Tick seconds) = ⊤
-EndsSetup (asks.Choose number) = ⊤
 EndsSetup asks.Unknown = ⊥
+EndsSetup asked = ⊤

@@ -1,5 +1,5 @@
 -- The lines that are printed. Assumes nothing.
-use Rattle.std.specs.Prelude.{◌≡◌, ℕ, List, [], ◌++◌, length, Some, None, Ok, Err, codes, decimal, Option, Result}
+use Rattle.std.specs.Prelude.{◌≡◌, ⊤, ℕ, List, [], ◌++◌, length, Some, None, Ok, Err, codes, decimal, Option, Result}
 use Rattle.std.specs.declared.alloc.AllocError.{AllocError}
 use Rattle.section.specs.declared.fields.EventId.{EventId}
 use Rattle.sets.specs.declared.sound.Sound.{Sound}
@@ -9,7 +9,7 @@ use Rattle.rehearse.specs.declared.shown.Shown.{Shown}
 -- the bytes at the end of what was printed before; where there is no memory, some of them
 abbrev pub Prints : {U : Type 0} → List ℕ → List ℕ → Result U AllocError → List ℕ → Type 0
 Prints before more (Ok u) after = after ≡ before ++ more
-Prints before more (Err e) after = Unit {0}
+Prints before more (Err e) after = ⊤
 
 abbrev pub field : List ℕ → ℕ → List ℕ
 field key n = key ++ decimal n
@@ -34,7 +34,7 @@ caption_of bytes = codes " caption=" ++ (bytes ++ codes "\n")
 
 -- what a receiver is at, and what its set shows
 abbrev pub state_of : Shown → List ℕ
-state_of s = field (codes " home=") s.home ++ (field (codes " screen=") s.screen ++ (sound_of s.sound ++ (alert_of s.alert ++ caption_of s.caption.now)))
+state_of s = field (codes " home=") s.home ++ (field (codes " screen=") s.picture.service ++ (sound_of s.picture.sound ++ (alert_of s.alert ++ caption_of s.picture.caption.now)))
 
 abbrev pub answer_of : List ℕ → ℕ → Option ℕ → List ℕ
 answer_of name n entry = codes "call=" ++ (name ++ (field (codes " answer=") n ++ entry_of entry))

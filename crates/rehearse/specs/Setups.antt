@@ -7,8 +7,4 @@ use Rattle.script.specs.declared.asked.Setting.TheVariants as settings
 -- one service more, as long as there are no more than a map may have
 abbrev pub table_after : List Service → Setting → List Service
 table_after table (settings.Service v) = cond (nat_lt (length table) 257) (table ++ v ∷ []) table
-table_after table (settings.Set v) = table
-table_after table (settings.Start v) = table
-table_after table (settings.Place v) = table
-table_after table (settings.Path v) = table
-table_after table (settings.Clock v) = table
+table_after table setting = table

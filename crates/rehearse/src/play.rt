@@ -1,24 +1,25 @@
 // The calls of a script, one after another, on any set.
 ghost use Rattle.std.specs.Prelude.{◌≡◌, IfSome, OnOk, MatchOption};
 ghost use Rattle.std.specs.Option.{option_map};
-ghost use Rattle.history.specs.Replies.{event, Replies};
-ghost use Rattle.receiver.specs.Stood.{WhateverCame, GoesOn, Shows as SetShows};
+ghost use Rattle.history.specs.Replies.{event};
+ghost use Rattle.receiver.specs.Stood.{WhateverCame, GoesOn, Shows};
 ghost use Rattle.rehearse.specs.Calling.{asked_call};
 ghost use Rattle.rehearse.specs.Exchanges.{NothingWaits};
-ghost use Rattle.rehearse.specs.Told.{TellsAnswer, TellsReply};
+ghost use Rattle.rehearse.specs.Told.{name_of, TellsAnswer, TellsWhatIsDue};
 
 use crate::documents::deliver_document;
 use crate::exchange::Exchange;
 use crate::input::Input;
 use crate::printer::Printer;
-use calls::{Call, Reply};
-use receiver::{Receiver, carry_on, rehearse};
+use calls::Call;
+use receiver::{Receiver, rehearse};
 use script::{Asked, BeginRefusal};
-use sets::Shows;
+use sets::Set;
 use station::Outset;
 use std::io;
 
-// A receiver begins without a call: the line of the begin is printed before any other.
+// A receiver begins by `rehearse`, which promises the law of whole runs, and without a call: the line of the begin is
+// printed before any other.
 static NO_CALLS: [Call<'static>; 0] = [];
 
 // What a line asks of the receiver, if it is a call of it. As in Rust there is no `From<u32>` for `usize`.
@@ -33,21 +34,32 @@ fn call_of<'a>(input: &'a Input, asked: Asked) -> Option<Call<'a>>
     }
 }
 
-// Makes a call, and prints what comes of it.
-fn make<S: Shows>(receiver: &mut Receiver<S>, call: Call<'_>, printer: &mut Printer)
-    ensures stands { GoesOn S.Set.meaning (event call.entry) receiver.old receiver.new }
-    ensures the_set_shows_what_the_call_asks { SetShows S.Set.meaning (event call.entry) receiver.old receiver.new }
-    ensures the_reply_is_told { TellsReply (λ reply. WhateverCame S.Set.meaning receiver.old (λ s h. Replies s h (event call.entry) reply)) printer.old (event call.entry) printer.new }
+fn name_of(call: &Call<'_>) -> &'static [u8]
+    ensures { result.now ≡ name_of (event call.now) }
 {
-    let mut replies = [Reply::Granted];
-    carry_on(receiver, &[call], &mut replies, printer);
+    match call {
+        Call::Section(_) => b"section",
+        Call::Reading(_) => b"tick",
+        Call::Choice(_) => b"choose",
+    }
+}
+
+// Makes a call, and prints what comes of it.
+fn make<S: Set>(receiver: &mut Receiver<S>, call: Call<'_>, printer: &mut Printer)
+    ensures stands { GoesOn S.meaning (event call.entry) receiver.old receiver.new }
+    ensures the_set_shows_what_the_call_asks { Shows S.meaning (event call.entry) receiver.old receiver.new }
+    ensures the_line_is_that_of_the_law { WhateverCame S.meaning receiver.old (λ s h. TellsWhatIsDue s h (event call.entry) printer.old printer.new) }
+{
+    let name = name_of(&call);
+    let reply = receiver.call(call);
+    printer.made(name, reply, receiver);
 }
 
 // Does what a line asks for, prints what comes of it, and writes nothing yet.
-fn take<S: Shows>(exchange: &mut Exchange, receiver: &mut Receiver<S>, asked: Asked)
-    ensures stands { MatchOption (asked_call exchange.old.input.room asked) (receiver.new ≡ receiver.old) (λ e. GoesOn S.Set.meaning e receiver.old receiver.new) }
-    ensures the_set_shows_what_the_call_asks { IfSome (asked_call exchange.old.input.room asked) (λ e. SetShows S.Set.meaning e receiver.old receiver.new) }
-    ensures the_answer_is_told { TellsAnswer (λ e reply. WhateverCame S.Set.meaning receiver.old (λ s h. Replies s h e reply)) exchange.old.input.room exchange.old.input.number asked exchange.old.output.printer exchange.new.output.printer }
+fn take<S: Set>(exchange: &mut Exchange, receiver: &mut Receiver<S>, asked: Asked)
+    ensures stands { MatchOption (asked_call exchange.old.input.room asked) (receiver.new ≡ receiver.old) (λ e. GoesOn S.meaning e receiver.old receiver.new) }
+    ensures the_set_shows_what_the_call_asks { IfSome (asked_call exchange.old.input.room asked) (λ e. Shows S.meaning e receiver.old receiver.new) }
+    ensures the_answer_is_told { TellsAnswer (λ e before after. WhateverCame S.meaning receiver.old (λ s h. TellsWhatIsDue s h e before after)) exchange.old.input.room exchange.old.input.number asked exchange.old.output.printer exchange.new.output.printer }
     ensures same { exchange.new.input ≡ exchange.old.input }
 {
     if let Some(call) = call_of(&exchange.input, asked) {
@@ -63,13 +75,13 @@ fn take<S: Shows>(exchange: &mut Exchange, receiver: &mut Receiver<S>, asked: As
 }
 
 // Does what a line asks for, and writes what was printed of it, which may be nothing.
-fn answer<S: Shows>(
+fn answer<S: Set>(
     exchange: &mut Exchange,
     receiver: &mut Receiver<S>,
     asked: Asked,
 ) -> io::Result<()>
-    ensures stands { MatchOption (asked_call exchange.old.input.room asked) (receiver.new ≡ receiver.old) (λ e. GoesOn S.Set.meaning e receiver.old receiver.new) }
-    ensures the_set_shows_what_the_call_asks { IfSome (asked_call exchange.old.input.room asked) (λ e. SetShows S.Set.meaning e receiver.old receiver.new) }
+    ensures stands { MatchOption (asked_call exchange.old.input.room asked) (receiver.new ≡ receiver.old) (λ e. GoesOn S.meaning e receiver.old receiver.new) }
+    ensures the_set_shows_what_the_call_asks { IfSome (asked_call exchange.old.input.room asked) (λ e. Shows S.meaning e receiver.old receiver.new) }
     ensures same { exchange.new.input ≡ exchange.old.input }
     ensures written { NothingWaits exchange.old → OnOk result (NothingWaits exchange.new) }
 {
@@ -78,7 +90,7 @@ fn answer<S: Shows>(
 }
 
 // Goes on to the end of the script.
-fn go_on<S: Shows>(
+fn go_on<S: Set>(
     exchange: &mut Exchange,
     receiver: &mut Receiver<S>,
     first: Asked,
@@ -91,7 +103,7 @@ fn go_on<S: Shows>(
 }
 
 // A receiver on the set, from its begin to the end of the script.
-pub fn play<S: Shows + Drop>(
+pub fn play<S: Set + Drop>(
     exchange: &mut Exchange,
     set: S,
     outset: Outset,
@@ -99,13 +111,7 @@ pub fn play<S: Shows + Drop>(
 ) -> io::Result<()>
     ensures { OnOk result (NothingWaits exchange.new) }
 {
-    let mut receiver = rehearse(
-        set,
-        outset,
-        &NO_CALLS,
-        &mut [],
-        &mut exchange.output.printer,
-    );
+    let mut receiver = rehearse(set, outset, &NO_CALLS, &mut []);
     let result = go_on(exchange, &mut receiver, first);
     let _ = receiver.end();
     result

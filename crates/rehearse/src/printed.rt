@@ -1,11 +1,9 @@
 // The lines that are printed.
 ghost use Rattle.std.specs.Prelude.{◌++◌, codes};
-ghost use Rattle.document.specs.Refusals.{delivery_number, call_of};
 ghost use Rattle.script.specs.Begins.{begin_number};
 ghost use Rattle.rehearse.specs.Printed.{Prints, field, numbered, sound_of, alert_of, entry_of, caption_of, state_of, answer_of, call_line, begin_line, document_lines, undelivered};
 
 use crate::shown::Shown;
-use document::DeliveryRefusal;
 use itoa::Integer;
 use records::Record;
 use script::BeginRefusal;
@@ -52,10 +50,10 @@ fn put_state(out: &mut Record, shown: &Shown<'_>) -> Result<(), AllocError>
     ensures { Prints out.old (state_of shown.now) result out.new }
 {
     out.field(b" home=", shown.home)?;
-    out.field(b" screen=", shown.screen)?;
-    put_sound(out, shown.sound)?;
+    out.field(b" screen=", shown.picture.service)?;
+    put_sound(out, shown.picture.sound)?;
     put_alert(out, shown.alert)?;
-    put_caption(out, shown.caption)
+    put_caption(out, shown.picture.caption)
 }
 
 // What a call is answered.
@@ -121,11 +119,11 @@ pub fn put_document(out: &mut Record, bytes: &[u8]) -> Result<(), AllocError>
 }
 
 // No document, and the call that refused it.
-pub fn put_undelivered(out: &mut Record, refusal: DeliveryRefusal) -> Result<(), AllocError>
-    ensures { Prints out.old (undelivered (delivery_number refusal) (call_of refusal)) result out.new }
+pub fn put_undelivered(out: &mut Record, number: u8, call: &str) -> Result<(), AllocError>
+    ensures { Prints out.old (undelivered number call.now) result out.new }
 {
-    out.field(b"call=document refused=", refusal.number())?;
+    out.field(b"call=document refused=", number)?;
     out.text(b" by=")?;
-    out.text(refusal.call().as_bytes())?;
+    out.text(call.as_bytes())?;
     out.text(b"\n")
 }

@@ -4,23 +4,23 @@ ghost use Rattle.std.specs.Fn.{FnOnceReturnsAtMut};
 ghost use Rattle.std.specs.Result.{result_and};
 ghost use Rattle.std.specs.declared.alloc.AllocError.{AllocError};
 ghost use Rattle.document.specs.Refusals.{delivery_number, call_of};
-ghost use Rattle.history.specs.Replies.{event};
+ghost use Rattle.calls.specs.Verdicts.{verdict_of};
+ghost use Rattle.receiver.specs.Stood.{WhateverCame};
 ghost use Rattle.script.specs.Begins.{begin_number};
 ghost use Rattle.rehearse.specs.Printed.{begin_line, call_line, numbered, document_lines, undelivered};
-ghost use Rattle.rehearse.specs.Told.{Empty, name_of, Tells, TellsCall, TellsSet};
-ghost use Rattle.rehearse.specs.declared.shown.Shown.{Shown};
+ghost use Rattle.rehearse.specs.Told.{Empty, Tells, TellsBegin, TellsCall};
 
 use crate::printed::{
     Answer, put_begin, put_begin_refused, put_call, put_document, put_not_understood,
     put_undelivered,
 };
 use crate::shown::{Shown, shown_by};
-use calls::{Call, Reply};
-use document::DeliveryRefusal;
-use receiver::{Receiver, Watch};
+use calls::Reply;
+use document::Undelivered;
+use receiver::Receiver;
 use records::Record;
 use script::BeginRefusal;
-use sets::Shows;
+use sets::Set;
 use std::alloc::{AllocError, Global};
 
 // What was printed and is not written yet, and whether there was memory for all of it.
@@ -28,16 +28,6 @@ use std::alloc::{AllocError, Global};
 pub struct Printer {
     record: Record,
     outcome: Result<(), AllocError>,
-}
-
-fn name_of(call: &Call<'_>) -> &'static [u8]
-    ensures { result.now ≡ name_of (event call.now) }
-{
-    match call {
-        Call::Section(_) => b"section",
-        Call::Reading(_) => b"tick",
-        Call::Choice(_) => b"choose",
-    }
 }
 
 impl Printer {
@@ -70,7 +60,7 @@ impl Printer {
         self.outcome
     }
 
-    // A watcher has nobody to tell of a fault, so it is kept. In `print`, a call of this left its proof open.
+    // A fault is kept until the next write, which answers it: nothing is written then.
     fn keep(&mut self, printed: Result<(), AllocError>)
         ensures outcome { self.new.outcome ≡ result_and self.old.outcome printed }
         ensures same { self.new.record ≡ self.old.record }
@@ -101,10 +91,24 @@ impl Printer {
         self.keep(result);
     }
 
-    pub fn begun<S: Shows>(&mut self, receiver: &Receiver<S>)
-        ensures { (shown : Shown) × TellsSet (S.Set.meaning receiver.now.set) shown × Tells self.old self.new (begin_line shown) }
+    // What a receiver begins with.
+    pub fn begun<S: Set>(&mut self, receiver: &Receiver<S>)
+        ensures { WhateverCame S.meaning receiver.now (λ s h. TellsBegin s h self.old self.new) }
     {
         self.begins(&shown_by(receiver));
+    }
+
+    // What came of a call, with the receiver after it.
+    pub fn made<S: Set>(&mut self, name: &[u8], reply: Reply, receiver: &Receiver<S>)
+        ensures { WhateverCame S.meaning receiver.now (λ s h. TellsCall s h name.now (verdict_of reply) self.old self.new) }
+    {
+        let shown = shown_by(receiver);
+        let answer = Answer {
+            name,
+            number: reply.number(),
+            entry: reply.entry(),
+        };
+        self.called(&answer, &shown);
     }
 
     pub fn begin_refused(&mut self, refusal: BeginRefusal)
@@ -125,24 +129,10 @@ impl Printer {
         self.print(|out| put_document(out, bytes));
     }
 
-    pub fn undelivered(&mut self, refusal: DeliveryRefusal)
-        ensures { Tells self.old self.new (undelivered (delivery_number refusal) (call_of refusal)) }
+    pub fn undelivered(&mut self, refusal: &Undelivered)
+        ensures { Tells self.old self.new (undelivered (delivery_number refusal.now) (call_of refusal.now)) }
     {
-        self.print(|out| put_undelivered(out, refusal));
-    }
-}
-
-impl<S: Shows> Watch<S> for Printer {
-    // this does not name the receiver, of which the line tells too
-    ghost sees = { TellsCall };
-
-    fn watch(&mut self, call: &Call<'_>, reply: Reply, receiver: &Receiver<S>) {
-        let shown = shown_by(receiver);
-        let answer = Answer {
-            name: name_of(call),
-            number: reply.number(),
-            entry: reply.entry(),
-        };
-        self.called(&answer, &shown);
+        let (number, call) = (refusal.number(), refusal.call());
+        self.print(|out| put_undelivered(out, number, call));
     }
 }

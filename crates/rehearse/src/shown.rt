@@ -1,38 +1,28 @@
 // What a receiver is at, and what its set shows.
-ghost use Rattle.std.specs.Prelude.{◌≡◌};
-ghost use Rattle.history.specs.Forces.{EventInForce};
-ghost use Rattle.history.specs.Viewers.{Home};
 ghost use Rattle.receiver.specs.Stood.{WhateverCame};
+ghost use Rattle.rehearse.specs.Told.{ShowsTheLaw};
 
+use decision::Picture;
 use receiver::Receiver;
 use section::EventId;
-use sets::{Shows, Sound};
+use sets::Set;
 
 #[derive(Clone, Copy, PartialEq, Eq, Debug)]
 pub struct Shown<'a> {
     // the viewer's service
     pub home: usize,
-    // the service on the screen
-    pub screen: usize,
-    pub sound: Sound,
+    // on the screen, with its sound and its caption
+    pub picture: Picture<'a>,
     // of the alert in force
     pub alert: Option<EventId>,
-    pub caption: &'a [u8],
 }
 
-pub fn shown_by<'a, S: Shows>(receiver: &'a Receiver<S>) -> Shown<'a>
-    ensures home { WhateverCame S.Set.meaning receiver.now (λ s h. Home s h result.home) }
-    ensures screen { result.screen ≡ (S.Set.meaning receiver.now.set).shown }
-    ensures sound { result.sound ≡ (S.Set.meaning receiver.now.set).sound }
-    ensures alert { WhateverCame S.Set.meaning receiver.now (λ s h. EventInForce s h result.alert) }
-    ensures caption { result.caption.now ≡ (S.Set.meaning receiver.now.set).caption }
+pub fn shown_by<S: Set>(receiver: &Receiver<S>) -> Shown<'_>
+    ensures { WhateverCame S.meaning receiver.now (λ s h. ShowsTheLaw s h result) }
 {
-    let set = receiver.set();
     Shown {
         home: receiver.home(),
-        screen: set.shown(),
-        sound: set.sound(),
+        picture: receiver.picture(),
         alert: receiver.event_in_force(),
-        caption: set.caption_bytes(),
     }
 }

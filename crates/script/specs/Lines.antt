@@ -4,7 +4,7 @@ use Rattle.std.specs.Option.{option_map_or}
 use Rattle.lines.specs.Ends.{unreturned, is_comment}
 use Rattle.lines.specs.Keys.{after, pairs, put_into}
 use Rattle.script.specs.declared.asked.Asked.{Asked}
-use Rattle.script.specs.declared.asked.Asked.TheVariants.{Nothing, Setting, Begin, Section, Document, Tick, Choose, Unknown}
+use Rattle.script.specs.declared.asked.Asked.TheVariants.{Nothing, Section, Document, Unknown}
 use Rattle.script.specs.Words.{words_ask}
 
 -- a text that is no comment, and that may be words or not
@@ -20,9 +20,4 @@ line_asks most line = cond (is_comment (unreturned line)) Nothing (text_asks (na
 abbrev pub room_for : List ℕ → List ℕ → Asked → List ℕ
 room_for room text (Section n) = put_into room (drop 8 text) (Some n)
 room_for room text (Document n) = put_into room (drop 9 text) (Some n)
-room_for room text Nothing = room
-room_for room text (Setting s) = room
-room_for room text Begin = room
-room_for room text (Tick n) = room
-room_for room text (Choose n) = room
-room_for room text Unknown = room
+room_for room text asked = room

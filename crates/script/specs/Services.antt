@@ -14,9 +14,9 @@ short (Some n) = cond (nat_lt n 65536) (Some n) None
 -- one mark more, which was not there yet
 abbrev pub with_mark : Service → List ℕ → Option Service
 with_mark s word =
-    cond (bytes_eq word (codes "controlled") && not s.controlled) (Some (record { source = s.source; channel = s.channel; controlled = true; paid = s.paid; apart = s.apart }))
-    (cond (bytes_eq word (codes "paid") && not s.paid) (Some (record { source = s.source; channel = s.channel; controlled = s.controlled; paid = true; apart = s.apart }))
-    (cond (bytes_eq word (codes "apart") && not s.apart) (Some (record { source = s.source; channel = s.channel; controlled = s.controlled; paid = s.paid; apart = true })) None))
+    cond (bytes_eq word (codes "controlled") && not s.controlled) (Some (record s { controlled = true }))
+    (cond (bytes_eq word (codes "paid") && not s.paid) (Some (record s { paid = true }))
+    (cond (bytes_eq word (codes "apart") && not s.apart) (Some (record s { apart = true })) None))
 
 -- what is made of a service, if there is one
 abbrev pub then_more : Option Service → (Service → Option Service) → Option Service
@@ -35,9 +35,7 @@ marks_after rest s = cond (has_mark 0x2C rest) (marks_from s [] (after_mark 0x2C
 -- without marks, where there are all three
 abbrev pub service_by : Option ℕ → Option ℕ → Option ℕ → Option Service
 service_by (Some major) (Some minor) (Some source) = Some (unmarked (record { 0 = source }) (record { major = major; minor = minor }))
-service_by (Some major) (Some minor) None = None
-service_by (Some major) None source = None
-service_by None minor source = None
+service_by major minor source = None
 
 -- what follows the first hyphen, and the first comma after it
 abbrev pub minor_on : List ℕ → List ℕ

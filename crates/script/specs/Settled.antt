@@ -14,8 +14,8 @@ unless_given (Some x) s = None
 
 abbrev pub settled : Settings → Setting → Option Settings
 settled s (Service v) = Some s
-settled s (Set v) = unless_given s.kind (record { kind = Some v; start = s.start; spot = s.spot; path = s.path; clock = s.clock })
-settled s (Start v) = unless_given s.start (record { kind = s.kind; start = Some v; spot = s.spot; path = s.path; clock = s.clock })
-settled s (Place v) = unless_given s.spot (record { kind = s.kind; start = s.start; spot = Some v; path = s.path; clock = s.clock })
-settled s (Path v) = unless_given s.path (record { kind = s.kind; start = s.start; spot = s.spot; path = Some v; clock = s.clock })
-settled s (Clock v) = unless_given s.clock (record { kind = s.kind; start = s.start; spot = s.spot; path = s.path; clock = Some v })
+settled s (Set v) = unless_given s.kind (record s { kind = Some v })
+settled s (Start v) = unless_given s.start (record s { start = Some v })
+settled s (Place v) = unless_given s.spot (record s { spot = Some v })
+settled s (Path v) = unless_given s.path (record s { path = Some v })
+settled s (Clock v) = unless_given s.clock (record s { clock = Some v })

@@ -32,9 +32,7 @@ path_of text = option_or (word_of (codes "path=in-band") InBand text) (word_of (
 -- three numbers with commas between them
 abbrev pub spot_by : Option ℕ → Option ℕ → Option ℕ → Option Spot
 spot_by (Some state) (Some county) (Some part) = Some (record { state = state; county = county; part = part })
-spot_by (Some state) (Some county) None = None
-spot_by (Some state) None part = None
-spot_by None county part = None
+spot_by state county part = None
 
 abbrev pub spot_of : List ℕ → Option Spot
 spot_of text = spot_by (parsed (before_mark 0x2C text)) (parsed (before_mark 0x2C (after_mark 0x2C text))) (parsed (after_mark 0x2C (after_mark 0x2C text)))

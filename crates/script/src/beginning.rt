@@ -1,7 +1,8 @@
 // What a receiver begins with, once the set-up is over.
 ghost use Rattle.std.specs.Prelude.{◌≡◌};
+ghost use Rattle.station.specs.Rules.{Gives};
 ghost use Rattle.script.specs.declared.beginning.BeginRefusal.TheVariants.{Table, Place};
-ghost use Rattle.script.specs.Begins.{begin_number, kind_of, start_of, spot_of, Begins};
+ghost use Rattle.script.specs.Begins.{begin_number, begin_refusal, kind_of, start_of, spot_of, BeginsWith};
 
 use crate::asked::SetKind;
 use crate::settings::Settings;
@@ -75,7 +76,7 @@ fn spot_of(settings: &Settings) -> Spot
 
 // The table is tested first, since its refusals have the smaller numbers.
 pub fn begin_with(settings: &Settings, services: &[Service]) -> Result<Beginning, BeginRefusal>
-    ensures cases { Begins settings.now services.now result }
+    ensures cases { Gives begin_number (begin_refusal settings.now services.now) (BeginsWith settings.now) result }
 {
     let kind = kind_of(settings);
     // as in Rust there is no `From<u32>` for `usize`

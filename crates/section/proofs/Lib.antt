@@ -1,3 +1,4 @@
 pub mod Outcomes
-pub mod Rising
+pub mod Placed
+pub mod Wholes
 pub mod Parts

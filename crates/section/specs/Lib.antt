@@ -1,7 +1,9 @@
 pub mod Places
 pub mod Values
+pub mod Origins
 pub mod Refusals
 pub mod Rules
+pub mod Whole
 pub mod Parts
 pub mod Texts
 pub mod Naming

@@ -1,12 +1,13 @@
 -- The rules of a section, and which of them it breaks first. Assumes nothing.
-use Rattle.std.specs.Prelude.{ℕ, zero, suc, ◌+◌, ◌/◌, ◌%◌, Bool, true, cond, ◌&&◌, List, length, drop, Some, None, Ok, Err, Option, Result, ◌==◌, nat_le, slice_index}
+use Rattle.std.specs.Prelude.{ℕ, ◌+◌, ◌/◌, ◌%◌, Bool, ◌&&◌, List, length, None, Option, ◌==◌, nat_le, slice_index}
+use Rattle.std.specs.List.{list_all, range_with_len}
 use Rattle.checkword.specs.Register.{check_register}
+use Rattle.entries.specs.Finding.{entry_at}
 use Rattle.entries.specs.Locations.{state_of, part_of, county_of}
+use Rattle.station.specs.Rules.{unless}
 use Rattle.text.specs.Structure.{structured}
 use Rattle.section.specs.Places.{word, locations_at, check_at, nature_of, alert_of, locations_of}
 use Rattle.section.specs.Values.{seconds_of}
-use Rattle.section.specs.declared.refusal.SectionRefusal.{SectionRefusal}
-use Rattle.section.specs.declared.refusal.SectionRefusal.TheVariants.{Length, Head, CheckWord, Version, Layout as Lengths, Range, Text}
 
 -- 46 to 4,096 bytes, as many as the head states
 abbrev pub sized : List ℕ → Bool
@@ -37,9 +38,9 @@ adds s = check_at s + 4 == length s
 abbrev pub located : List ℕ → Bool
 located e = nat_le (state_of e) 99 && (nat_le (part_of e) 9 && nat_le (county_of e) 999)
 
+-- each of so many location entries, by its number
 abbrev pub all_located : ℕ → List ℕ → Bool
-all_located zero s = true
-all_located (suc n) s = located s && all_located n (drop 3 s)
+all_located count entries = list_all (λ k. located (entry_at 3 entries k)) (range_with_len 0 count)
 
 -- at most 120 seconds, and 1 to 31 location entries
 abbrev pub bounded : ℕ → ℕ → Bool
@@ -53,24 +54,16 @@ ranged s = bounded (seconds_of s) (slice_index s (locations_at s)) && all_locate
 abbrev pub spelled : List ℕ → Bool
 spelled s = structured (nature_of s) && structured (alert_of s)
 
-abbrev pub unless : Bool → SectionRefusal → Option SectionRefusal → Option SectionRefusal
-unless kept e rest = cond kept rest (Some e)
-
--- the first rule that is broken, if any is
-abbrev pub broken : List ℕ → Option SectionRefusal
+-- the number of the first rule that is broken, if any is
+abbrev pub broken : List ℕ → Option ℕ
 broken s =
-    unless (sized s) Length
-    (unless (headed s) Head
-    (unless (checks s) CheckWord
-    (unless (versioned s) Version
-    (unless (adds s) Lengths
-    (unless (ranged s) Range
-    (unless (spelled s) Text None))))))
+    unless (sized s) 10
+    (unless (headed s) 11
+    (unless (checks s) 12
+    (unless (versioned s) 13
+    (unless (adds s) 14
+    (unless (ranged s) 15
+    (unless (spelled s) 16 None))))))
 
-unfoldable pub refusal : List ℕ → Option SectionRefusal
+unfoldable pub refusal : List ℕ → Option ℕ
 refusal s = broken s
-
--- a value of the section, or its refusal
-abbrev pub or_refused : {A : Type 0} → Option SectionRefusal → A → Result A SectionRefusal
-or_refused None a = Ok a
-or_refused (Some e) a = Err e

@@ -1,5 +1,7 @@
 // The rules of a section, tested in their order.
-ghost use Rattle.std.specs.Prelude.{◌≡◌, Some, None, MatchResult};
+ghost use Rattle.std.specs.Prelude.{◌≡◌};
+ghost use Rattle.station.specs.Rules.{Gives};
+ghost use Rattle.section.specs.Refusals.{number};
 ghost use Rattle.section.specs.Rules.{sized, headed, checks, versioned, adds, spelled, broken};
 
 use super::bytes::part_of;
@@ -61,7 +63,7 @@ impl<'a> Laid<'a> {
 
 // The layout of a section that breaks no rule, or the first rule that is broken.
 pub(crate) fn check(bytes: &[u8]) -> Result<Laid<'_>, SectionRefusal>
-    ensures cases { MatchResult result (λ l. (broken bytes.now ≡ None) × (l.bytes.now ≡ bytes.now)) (λ e. broken bytes.now ≡ Some e) }
+    ensures cases { Gives number (broken bytes.now) (λ l. l.bytes.now ≡ bytes.now) result }
 {
     let head = split_head(bytes).ok_or(SectionRefusal::Length)?;
     if !head.is_sized() {
@@ -76,7 +78,7 @@ pub(crate) fn check(bytes: &[u8]) -> Result<Laid<'_>, SectionRefusal>
     if !head.is_versioned() {
         return Err(SectionRefusal::Version);
     }
-    let laid = lay_out(bytes);
+    let laid = lay_out(&head);
     if !laid.is_added() {
         return Err(SectionRefusal::Layout);
     }

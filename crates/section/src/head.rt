@@ -1,5 +1,8 @@
 // The head of a section, its first nine bytes, and the body after it.
 ghost use Rattle.std.specs.Prelude.{◌≡◌, ◌+◌, ◌*◌, ◌/◌, ◌%◌, ◌<◌, ◌≤◌, length, drop, slice_index, MatchOption};
+ghost use Rattle.section.specs.Places.{word};
+
+use octets::{byte_at, word_at};
 
 // The numbers of the head, the bytes that state them, and those that follow.
 #[derive(Clone, Copy)]
@@ -27,6 +30,24 @@ pub struct Head<'a> {
     ghost rest: { body.now ≡ drop 9 bytes.now },
 }
 
+impl<'a> Head<'a> {
+    // The byte at a place of the section that is in the body.
+    pub(crate) fn body_byte(&self, at: usize) -> u8
+        requires { 9 ≤ at }
+        ensures value { result ≡ slice_index self.now.bytes.now at }
+    {
+        byte_at(self.body, at - 9)
+    }
+
+    // Two bytes from there on as a number, the first highest.
+    pub(crate) fn body_word(&self, at: usize) -> u16
+        requires { 9 ≤ at }
+        ensures value { result ≡ word self.now.bytes.now at }
+    {
+        word_at(self.body, at - 9)
+    }
+}
+
 // The head and the body, where there are nine bytes.
 pub(crate) fn split_head(bytes: &[u8]) -> Option<Head<'_>>
     ensures cases { MatchOption result (length bytes.now < 9) (λ h. h.bytes.now ≡ bytes.now) }
@@ -38,7 +59,7 @@ pub(crate) fn split_head(bytes: &[u8]) -> Option<Head<'_>>
         length_low,
         extension_high,
         extension_low,
-        version,
+        sequence_and_current,
         section_number,
         last_section_number,
         protocol_version,
@@ -53,7 +74,7 @@ pub(crate) fn split_head(bytes: &[u8]) -> Option<Head<'_>>
         syntax: *length_high / 64,
         section_length: u16::from_be_bytes([*length_high % 16, *length_low]),
         extension: u16::from_be_bytes([*extension_high, *extension_low]),
-        current: *version % 2,
+        current: *sequence_and_current % 2,
         section_number: *section_number,
         last_section_number: *last_section_number,
         protocol_version: *protocol_version,

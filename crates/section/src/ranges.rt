@@ -1,11 +1,13 @@
 // The ranges that a section's numbers keep.
-ghost use Rattle.std.specs.Prelude.{◌≡◌};
+ghost use Rattle.std.specs.Prelude.{◌≡◌, ◌<◌};
+ghost use Rattle.entries.specs.Finding.{entry_at};
 ghost use Rattle.section.specs.Rules.{located, all_located, bounded, ranged};
 
 use super::bytes::part_of;
 use super::laid::Laid;
+use super::layout::Span;
 use entries::Location;
-use octets::{after, byte_at};
+use octets::byte_at;
 
 // One location entry, at the front.
 fn is_located(entry: &[u8]) -> bool
@@ -15,12 +17,26 @@ fn is_located(entry: &[u8]) -> bool
     location.state <= 99 && location.part <= 9 && location.county <= 999
 }
 
-// So many location entries, one after another.
+// The bytes of the location entry number k, as far as there are any.
+fn location_bytes(entries: &[u8], k: usize) -> &[u8]
+    requires { k < 256 }
+    ensures value { result.now ≡ entry_at 3 entries.now k }
+{
+    part_of(
+        entries,
+        Span {
+            start: k * 3,
+            end: k * 3 + 3,
+        },
+    )
+}
+
+// Each of so many location entries.
 fn all_located(count: u8, entries: &[u8]) -> bool
     ensures value { result ≡ all_located count entries.now }
 {
     // By number and not by `chunks`: entries past the bytes are zeros, and count.
-    (0..usize::from(count)).all(|k| is_located(after(entries, 3 * k)))
+    (0..usize::from(count)).all(|k| is_located(location_bytes(entries, k)))
 }
 
 // The alert's seconds and the number of its location entries.

@@ -1,11 +1,8 @@
 // Why a section, or a question about its text, is refused.
 ghost use Rattle.std.specs.Prelude.{◌≡◌, Some};
-ghost use Rattle.section.specs.declared.refusal.QuestionRefusal.TheVariants.{Section};
-ghost use Rattle.section.specs.declared.refusal.SectionRefusal.TheVariants.{Text};
 ghost use Rattle.section.specs.Refusals.{number, words, question_number, question_words};
 
 use std::fmt;
-use text::TextRefusal;
 
 #[derive(Clone, Copy, PartialEq, Eq, Debug)]
 pub enum SectionRefusal {
@@ -32,17 +29,9 @@ pub enum QuestionRefusal {
     Short,
 }
 
-// A text that cannot be read breaks its structure.
-impl From<TextRefusal> for SectionRefusal {
-    ghost from_gives = { λ _ e. e ≡ Text };
-
-    fn from(_e: TextRefusal) -> SectionRefusal {
-        SectionRefusal::Text
-    }
-}
-
+// The number stays.
 impl From<SectionRefusal> for QuestionRefusal {
-    ghost from_gives = { λ e r. r ≡ Section e };
+    ghost from_gives = { λ e r. question_number r ≡ number e };
 
     fn from(refusal: SectionRefusal) -> QuestionRefusal {
         QuestionRefusal::Section(refusal)

@@ -18,6 +18,3 @@ inputs k (suc n) = input k ∷ inputs (k + 1) n
 
 abbrev pub bus_meaning : StudioBus → Meaning
 bus_meaning b = record { services = inputs 0 16; shown = b.shown; sound = Own; caption = held b.caption }
-
-abbrev pub new_bus : Meaning
-new_bus = record { services = inputs 0 16; shown = 0; sound = Own; caption = [] }

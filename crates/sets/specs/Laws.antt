@@ -1,6 +1,5 @@
 -- That the sets of this crate are lawful: proofs that the ghost members hold, which can cite nothing outside specs. Assumes nothing.
-use Rattle.std.proofs.Common.{arith}
-use Rattle.std.specs.Prelude.{refl}
+use Rattle.std.proofs.Common.{refl, arith}
 use Rattle.sets.specs.declared.bus.StudioBus.{StudioBus}
 use Rattle.sets.specs.declared.map.ChannelMap.{ChannelMap}
 use Rattle.sets.specs.Bus.{bus_meaning}
@@ -14,7 +13,7 @@ bus_lawful b =
       some = omega arith;
       few = omega arith;
       inside = b.inside;
-      heard = refl;
+      listed = refl;
       short = held_short b.caption;
     }
 
@@ -24,6 +23,6 @@ map_lawful m =
       some = omega (arith, m.inside);
       few = m.few;
       inside = m.inside;
-      heard = m.heard;
+      listed = m.listed;
       short = held_short m.caption;
     }

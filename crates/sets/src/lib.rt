@@ -13,5 +13,5 @@ pub use bus::StudioBus;
 pub use caption::Caption;
 pub use map::ChannelMap;
 pub use refusal::{SetRefusal, TableRefusal};
-pub use set::{Set, Shows};
+pub use set::Set;
 pub use sound::Sound;

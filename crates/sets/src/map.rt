@@ -1,6 +1,6 @@
 // The channel map: a set over a table of services that is lent to it.
-ghost use Rattle.std.specs.Prelude.{◌≡◌, ◌<◌, ◌≤◌, true, length};
-ghost use Rattle.sets.specs.Meaning.{hearable};
+ghost use Rattle.std.specs.Prelude.{◌≡◌, ℕ, ◌<◌, ◌≤◌, true, length};
+ghost use Rattle.sets.specs.Meaning.{lists_sound};
 
 use super::caption::Caption;
 use super::sound::Sound;
@@ -14,7 +14,7 @@ pub struct ChannelMap<'a> {
     caption: Caption,
     ghost few: { length table.now ≤ 256 },
     ghost inside: { shown < length table.now },
-    ghost heard: { hearable table.now sound ≡ true },
+    ghost listed: { lists_sound table.now sound ≡ true },
 }
 
 pub mod works;

@@ -1,6 +1,5 @@
 // Why a set refuses a call, and why a table makes no set.
 ghost use Rattle.std.specs.Prelude.{◌≡◌, Some};
-ghost use Rattle.sets.specs.declared.refusal.SetRefusal.TheVariants.{CaptionTooLong};
 ghost use Rattle.sets.specs.Refusals.{refusal_number, refusal_words, table_number, table_words};
 
 use octets::Full;
@@ -51,7 +50,7 @@ impl fmt::Display for SetRefusal {
 
 // More bytes than a caption has room for.
 impl From<Full> for SetRefusal {
-    ghost from_gives = { λ _ e. e ≡ CaptionTooLong };
+    ghost from_gives = { λ _ e. refusal_number e ≡ 63 };
 
     fn from(_full: Full) -> SetRefusal {
         SetRefusal::CaptionTooLong

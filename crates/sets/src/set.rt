@@ -1,9 +1,8 @@
-// What every set does, and what can be asked of one besides.
+// What every set does.
 ghost use Rattle.std.specs.Prelude.{◌≡◌};
 ghost use Rattle.sets.specs.Meaning.{Meaning, Lawful, count_of, service_at, owning, Tunes, Borrows, Captions};
 
 use super::refusal::SetRefusal;
-use super::sound::Sound;
 use station::Service;
 
 pub trait Set {
@@ -39,15 +38,4 @@ pub trait Set {
     // Replaces the caption.
     fn caption(&mut self, bytes: &[u8]) -> Result<(), SetRefusal>
         ensures cases { Captions (meaning self.old) bytes.now result (meaning self.new) };
-}
-
-// A set that can also be asked for its sound and its caption.
-pub trait Shows: Set {
-    // Whose sound is heard.
-    fn sound(&self) -> Sound
-        ensures value { result ≡ (Self.Set.meaning self.now).sound };
-
-    // The bytes of the caption.
-    fn caption_bytes(&self) -> &[u8]
-        ensures value { result.now ≡ (Self.Set.meaning self.now).caption };
 }

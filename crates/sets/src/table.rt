@@ -1,6 +1,10 @@
 // The rules of a table of services with its start, tested in their order.
 ghost use Rattle.std.specs.Prelude.{◌≡◌, true, false};
-ghost use Rattle.sets.specs.Tables.{sized, numbered, all_numbered, table_refusal, Checks};
+ghost use Rattle.station.specs.Rules.{Gives};
+ghost use Rattle.sets.specs.Maps.{new_map};
+ghost use Rattle.sets.specs.Meaning.{plain};
+ghost use Rattle.sets.specs.Refusals.{table_number};
+ghost use Rattle.sets.specs.Tables.{sized, numbered, all_numbered, table_refusal};
 
 use super::map::ChannelMap;
 use super::refusal::TableRefusal;
@@ -25,9 +29,9 @@ fn all_numbered(table: &[Service]) -> bool
 }
 
 impl<'a> ChannelMap<'a> {
-    // Whether a map over the table can start there, and if not the first rule that is broken.
+    // Whether a map over the table can start there, and is then made over it; if not, the first rule that is broken.
     pub fn check(table: &[Service], start: usize) -> Result<(), TableRefusal>
-        ensures cases { Checks (table_refusal table.now start) result }
+        ensures cases { Gives table_number (table_refusal table.now start) (λ _. new_map table.now start ≡ plain table.now start) result }
     {
         if !is_sized(table) {
             return Err(TableRefusal::Size);

@@ -4,9 +4,9 @@ use Rattle.station.specs.declared.service.ChannelPair.{ChannelPair}
 use Rattle.station.specs.declared.service.SourceId.{SourceId}
 
 -- the first is a pair, and the second is the same
-abbrev pub is_pair : ChannelPair → ChannelPair → Bool
-is_pair a b = not (a.major == 0 && a.minor == 0) && (a.major == b.major && a.minor == b.minor)
+abbrev pub names_pair : ChannelPair → ChannelPair → Bool
+names_pair a b = not (a.major == 0 && a.minor == 0) && (a.major == b.major && a.minor == b.minor)
 
 -- the first is an ID, and the second is the same
-abbrev pub is_id : SourceId → SourceId → Bool
-is_id a b = not (a.0 == 0) && a.0 == b.0
+abbrev pub names_id : SourceId → SourceId → Bool
+names_id a b = not (a.0 == 0) && a.0 == b.0

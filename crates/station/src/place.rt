@@ -1,7 +1,5 @@
 // Where a receiver stands: a state, a county of it, and a part of the county.
-ghost use Rattle.std.specs.Prelude.{◌≡◌, ◌≤◌, true, false, MatchResult};
-ghost use Rattle.station.specs.Ranges.{ranged};
-ghost use Rattle.station.specs.declared.refusal.PlaceRefusal.TheVariants.{Range};
+ghost use Rattle.std.specs.Prelude.{◌≤◌};
 
 use super::refusal::PlaceRefusal;
 
@@ -19,9 +17,11 @@ pub struct Place {
 }
 
 impl Place {
+    ghost use Rattle.station.specs.Places.{MakesPlace};
+
     // No place is made of a number that is out of its range.
     pub fn new(state: u8, county: u16, part: u8) -> Result<Place, PlaceRefusal>
-        ensures cases { MatchResult result (λ p. (ranged state county part ≡ true) × (p.state ≡ state) × (p.county ≡ county) × (p.part ≡ part)) (λ e. (ranged state county part ≡ false) × (e ≡ Range)) }
+        ensures cases { MakesPlace state county part result }
     {
         if (1..=99).contains(&state) && (1..=999).contains(&county) && part <= 9 {
             Ok(Place {

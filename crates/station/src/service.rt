@@ -1,6 +1,6 @@
 // Services and what names them.
 ghost use Rattle.std.specs.Prelude.{◌≡◌};
-ghost use Rattle.station.specs.Names.{is_pair, is_id};
+ghost use Rattle.station.specs.Names.{names_pair, names_id};
 ghost use Rattle.station.specs.Services.{unmarked};
 
 // 0 for none, as it is sent: an option would have to be made and taken apart wherever it is read or printed.
@@ -17,7 +17,7 @@ pub struct ChannelPair {
 impl SourceId {
     // Whether it is that very ID, and is one at all.
     pub fn names(self, id: SourceId) -> bool
-        ensures value { result ≡ is_id self id }
+        ensures value { result ≡ names_id self id }
     {
         self != SourceId(0) && self == id
     }
@@ -26,7 +26,7 @@ impl SourceId {
 impl ChannelPair {
     // Whether it is that very pair, and is one at all. A trait over this and the one above would be longer than both.
     pub fn names(self, pair: ChannelPair) -> bool
-        ensures value { result ≡ is_pair self pair }
+        ensures value { result ≡ names_pair self pair }
     {
         self != ChannelPair { major: 0, minor: 0 } && self == pair
     }

@@ -5,3 +5,4 @@ pub mod Said
 pub mod Writing
 pub mod Filling
 pub mod Seen
+pub mod Bounds

@@ -1,9 +1,10 @@
 -- What a text says, and what is answered for a field. Assumes nothing.
-use Rattle.std.specs.Prelude.{◌≡◌, ℕ, true, false, List, Ok, Err, Result}
+use Rattle.std.specs.Prelude.{◌≡◌, ℕ, List, None, Option, Result}
 use Rattle.octets.specs.Held.{held}
+use Rattle.station.specs.Rules.{unless, Gives}
 use Rattle.text.specs.declared.line.Text.{Text}
 use Rattle.text.specs.declared.refusal.TextRefusal.{TextRefusal}
-use Rattle.text.specs.declared.refusal.TextRefusal.TheVariants.{Broken}
+use Rattle.text.specs.Refusals.{number}
 use Rattle.text.specs.Structure.{structured}
 use Rattle.text.specs.Reading.{text_of}
 
@@ -11,7 +12,10 @@ use Rattle.text.specs.Reading.{text_of}
 abbrev pub said : Text → List ℕ
 said t = held t.bytes
 
--- the text of a field that keeps the structure; any other field is broken
+-- a field keeps its structure
+abbrev pub unless_broken : List ℕ → Option ℕ → Option ℕ
+unless_broken field rest = unless (structured field) 16 rest
+
+-- the text of a field, if it keeps the structure
 abbrev pub English : List ℕ → Result Text TextRefusal → Type 0
-English field (Ok t) = (structured field ≡ true) × (said t ≡ text_of field)
-English field (Err e) = (structured field ≡ false) × (e ≡ Broken)
+English field r = Gives number (unless_broken field None) (λ t. said t ≡ text_of field) r

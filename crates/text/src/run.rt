@@ -1,9 +1,10 @@
 // Parts of a field that stand one after another.
-ghost use Rattle.std.specs.Prelude.{◌≡◌, ℕ, List, Option};
+ghost use Rattle.std.specs.Prelude.{◌≡◌, ℕ, ◌*◌, ◌^◌, ◌<◌, ◌≤◌, List, map};
 ghost use Rattle.std.specs.Iterator.{YieldsFirstBy, item_count};
-ghost use Rattle.std.specs.Option.{option_map};
-ghost use Rattle.text.specs.Structure.{run, after_all, past_all};
+ghost use Rattle.std.specs.List.{sum_by};
+ghost use Rattle.text.specs.Structure.{parts};
 
+use octets::after;
 use std::marker::PhantomData;
 
 // A kind of parts, each read where it begins; past the end there are zeros.
@@ -17,21 +18,21 @@ pub(crate) trait Parts<'a> {
 
     ghost at: { List ℕ → Stated };
 
-    ghost after: { List ℕ → List ℕ };
+    ghost size: { List ℕ → ℕ };
 
-    ghost past: { List ℕ → Option (List ℕ) };
+    // the most bytes that one states
+    ghost most: { ℕ };
 
     // The part at the front.
     fn read(bytes: &'a [u8]) -> Self::Part
         ensures value { stated result ≡ at bytes.now };
 
-    // What follows it, as far as there is any.
-    fn skip(bytes: &'a [u8]) -> &'a [u8]
-        ensures value { result.now ≡ after bytes.now };
+    // How many bytes it states that it has.
+    fn size_of(bytes: &'a [u8]) -> usize
+        ensures value { result ≡ size bytes.now }
+        ensures bound { result ≤ most };
 
-    // What follows it where it is whole.
-    fn past(bytes: &'a [u8]) -> Option<&'a [u8]>
-        ensures value { option_map (λ x. x.now) result ≡ past bytes.now };
+    ghost small: { 255 * most < 2 ^ 32 };
 }
 
 // So many parts that are still to come.
@@ -54,42 +55,34 @@ impl<'a, P: Parts<'a>> Run<'a, P> {
         }
     }
 
-    // What follows all of them.
-    pub(crate) fn end(self) -> &'a [u8]
-        ensures value { result.now ≡ after_all P.after self.entry.left self.entry.rest.now }
+    // How many bytes they state that they have together.
+    pub(crate) fn size(self) -> usize
+        ensures value { result ≡ sum_by P.size (parts P.size self.entry.left self.entry.rest.now) }
+        ensures bound { result ≤ 255 * P.most }
     {
         let mut rest = self.rest;
-        // A step is taken so many times. Here and below, a `fold` was tried: the borrow checker does not cover a call
-        // of `Parts<'a>` in a closure.
+        let mut size = 0;
+        // Only the sizes are asked for: no part is read.
         for _ in 0..self.left {
-            rest = P::skip(rest);
+            let part = P::size_of(rest);
+            size += part;
+            rest = after(rest, part);
         }
-        rest
-    }
-
-    // The same where each is whole.
-    pub(crate) fn whole_end(self) -> Option<&'a [u8]>
-        ensures value { option_map (λ x. x.now) result ≡ past_all P.past self.entry.left self.entry.rest.now }
-    {
-        let mut rest = self.rest;
-        for _ in 0..self.left {
-            rest = P::past(rest)?;
-        }
-        Some(rest)
+        size
     }
 }
 
 impl<'a, P: Parts<'a>> Iterator for Run<'a, P> {
     type Item = P::Part;
 
-    ghost next_gives = { YieldsFirstBy P.stated (λ r. run P.at P.after r.left r.rest.now) };
+    ghost next_gives = { YieldsFirstBy P.stated (λ r. map P.at (parts P.size r.left r.rest.now)) };
 
-    ghost remaining = { item_count (λ r. run P.at P.after r.left r.rest.now) };
+    ghost remaining = { item_count (λ r. map P.at (parts P.size r.left r.rest.now)) };
 
     fn next(&mut self) -> Option<P::Part> {
         self.left = self.left.checked_sub(1)?;
         let part = P::read(self.rest);
-        self.rest = P::skip(self.rest);
+        self.rest = after(self.rest, P::size_of(self.rest));
         Some(part)
     }
 }

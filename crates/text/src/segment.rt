@@ -1,6 +1,7 @@
 // Segments: where they end, and which can be read.
 ghost use Rattle.std.specs.Prelude.{◌≡◌, take};
-ghost use Rattle.text.specs.Structure.{Segment as OneSegment, segment_at, segment_size, after_segment, past_segment};
+ghost use Rattle.text.specs.Structure.{Segment as OneSegment, segment_at, segment_size};
+ghost use Rattle.text.specs.Bounds.{segments_small};
 ghost use Rattle.text.specs.Reading.{readable};
 ghost use Rattle.text.specs.Seen.{seen_segment};
 
@@ -29,13 +30,6 @@ pub(crate) fn front(bytes: &[u8], n: usize) -> &[u8]
     bytes.get(..n).unwrap_or(bytes)
 }
 
-// How many bytes the segment at the front has.
-fn segment_size(bytes: &[u8]) -> usize
-    ensures value { result ≡ segment_size bytes.now }
-{
-    3 + usize::from(byte_at(bytes, 2))
-}
-
 // The segments of a string.
 #[derive(Clone, Copy)]
 pub(crate) struct Segments;
@@ -49,9 +43,11 @@ impl<'a> Parts<'a> for Segments {
 
     ghost at = { segment_at };
 
-    ghost after = { after_segment };
+    ghost size = { segment_size };
 
-    ghost past = { past_segment };
+    ghost most = { 258 };
+
+    ghost small = { segments_small };
 
     fn read(bytes: &'a [u8]) -> Segment<'a> {
         Segment {
@@ -61,11 +57,7 @@ impl<'a> Parts<'a> for Segments {
         }
     }
 
-    fn skip(bytes: &'a [u8]) -> &'a [u8] {
-        after(bytes, segment_size(bytes))
-    }
-
-    fn past(bytes: &'a [u8]) -> Option<&'a [u8]> {
-        bytes.get(segment_size(bytes)..)
+    fn size_of(bytes: &'a [u8]) -> usize {
+        3 + usize::from(byte_at(bytes, 2))
     }
 }

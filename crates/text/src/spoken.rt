@@ -1,6 +1,7 @@
 // Strings: their language and their segments.
 ghost use Rattle.std.specs.Prelude.{◌≡◌};
-ghost use Rattle.text.specs.Structure.{Spoken as OneString, string_at, after_string, past_string};
+ghost use Rattle.text.specs.Structure.{Spoken as OneString, string_at, string_size};
+ghost use Rattle.text.specs.Bounds.{strings_small};
 ghost use Rattle.text.specs.Reading.{english};
 ghost use Rattle.text.specs.Seen.{seen_string};
 
@@ -35,9 +36,12 @@ impl<'a> Parts<'a> for Strings {
 
     ghost at = { string_at };
 
-    ghost after = { after_string };
+    ghost size = { string_size };
 
-    ghost past = { past_string };
+    // 255 segments, and the four bytes before them
+    ghost most = { 65794 };
+
+    ghost small = { strings_small };
 
     fn read(bytes: &'a [u8]) -> Spoken<'a> {
         Spoken {
@@ -46,11 +50,7 @@ impl<'a> Parts<'a> for Strings {
         }
     }
 
-    fn skip(bytes: &'a [u8]) -> &'a [u8] {
-        Run::<Segments>::new(byte_at(bytes, 3), after(bytes, 4)).end()
-    }
-
-    fn past(bytes: &'a [u8]) -> Option<&'a [u8]> {
-        Run::<Segments>::new(byte_at(bytes, 3), bytes.get(4..)?).whole_end()
+    fn size_of(bytes: &'a [u8]) -> usize {
+        4 + Run::<Segments>::new(byte_at(bytes, 3), after(bytes, 4)).size()
     }
 }

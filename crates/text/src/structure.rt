@@ -1,15 +1,15 @@
 // The strings of a field, and whether it keeps the structure.
-ghost use Rattle.std.specs.Prelude.{◌≡◌};
-ghost use Rattle.text.specs.Structure.{ends, past_strings, strings as the_strings, strings_of, structured};
+ghost use Rattle.std.specs.Prelude.{◌≡◌, slice_index, drop};
+ghost use Rattle.text.specs.Structure.{structured};
 
 use crate::run::Run;
 use crate::spoken::Strings;
 use octets::{after, byte_at};
 
-// The strings of a field, to the end of which it keeps the structure. One of no bytes has none.
+// The strings of a field; one of no bytes counts none.
 pub(crate) fn strings_of(field: &[u8]) -> Run<'_, Strings>
-    ensures value { the_strings result.left result.rest.now ≡ strings_of field.now }
-    ensures structure { ends (past_strings result.left result.rest.now) ≡ structured field.now }
+    ensures left { result.left ≡ slice_index field.now 0 }
+    ensures rest { result.rest.now ≡ drop 1 field.now }
 {
     Run::new(byte_at(field, 0), after(field, 1))
 }
@@ -18,7 +18,5 @@ pub(crate) fn strings_of(field: &[u8]) -> Run<'_, Strings>
 pub fn is_structured(field: &[u8]) -> bool
     ensures value { result ≡ structured field.now }
 {
-    strings_of(field)
-        .whole_end()
-        .is_some_and(|rest| rest.is_empty())
+    strings_of(field).size() == after(field, 1).len()
 }

@@ -3,6 +3,7 @@ ghost use Rattle.std.specs.Prelude.{◌≡◌, ℕ, List, length};
 ghost use Rattle.document.specs.Calls.{FillsOf};
 ghost use Rattle.document.specs.Delivering.{Holds};
 ghost use Rattle.document.specs.Filling.{Fills};
+ghost use Rattle.document.specs.Lengths.{filled_length};
 
 use super::{Filled, Gathered, Unfilled};
 use crate::placeholder::put_document;
@@ -12,7 +13,7 @@ use text::LONGEST;
 impl Filled {
     // How many bytes the document has.
     pub fn len(&self) -> usize
-        ensures value { result ≡ self.now.size }
+        ensures value { result ≡ filled_length self.now }
     {
         self.size
     }

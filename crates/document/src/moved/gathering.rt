@@ -1,9 +1,12 @@
 // Gathering a document from a section's descriptors, and the gathered document's length.
 ghost use Rattle.std.specs.Prelude.{◌≡◌, ℕ, ◌≤◌, List, length};
 ghost use Rattle.document.specs.Calls.{GathersOf};
+ghost use Rattle.document.specs.Carrying.{DocumentIsItsFragments};
 ghost use Rattle.document.specs.Document.{document_of};
 ghost use Rattle.document.specs.Gathers.{section_document, Gathers};
+ghost use Rattle.document.specs.Lengths.{gathered_length};
 ghost use Rattle.document.specs.Rearranging.{Rearranged};
+ghost use Rattle.section.specs.Origins.{bytes_of};
 
 use super::Gathered;
 use crate::binding::{total, write};
@@ -14,7 +17,7 @@ use section::Section;
 impl Gathered {
     // How many bytes the document has.
     pub fn len(&self) -> usize
-        ensures value { result ≡ self.now.size }
+        ensures value { result ≡ gathered_length self.now }
     {
         self.size
     }
@@ -37,9 +40,10 @@ fn gather_part(area: &[u8], work: &mut [u8]) -> Result<Gathered, DocumentRefusal
 
 // Writes the document of the section to the front of `work`. A refusal leaves `work` as it was.
 pub fn gather(section: &Section<'_>, work: &mut [u8]) -> Result<Gathered, DocumentRefusal>
-    ensures cases { Gathers (section_document section.now.bytes.now) work.old result work.new }
-    ensures document_of_the_section { GathersOf section.now.bytes.now (length work.old) result work.new }
-    ensures order_of_descriptors_does_not_matter { (t : List ℕ) → Rearranged section.now.bytes.now t → Gathers (section_document t) work.old result work.new }
+    ensures cases { Gathers (section_document (bytes_of section.now)) work.old result work.new }
+    ensures document_of_the_section { GathersOf (bytes_of section.now) (length work.old) result work.new }
+    ensures document_is_its_fragments { DocumentIsItsFragments }
+    ensures order_of_descriptors_does_not_matter { (t : List ℕ) → Rearranged (bytes_of section.now) t → Gathers (section_document t) work.old result work.new }
 {
     let part = section.descriptors()?;
     gather_part(part.bytes, work)

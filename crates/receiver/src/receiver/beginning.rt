@@ -1,8 +1,8 @@
 // A receiver begins.
 ghost use Rattle.std.specs.Prelude.{◌≡◌, []};
-ghost use Rattle.decision.specs.Pictures.{plain};
 ghost use Rattle.history.specs.Law.{Law};
 ghost use Rattle.receiver.specs.Stood.{began, Stood};
+ghost use Rattle.sets.specs.Meaning.{plain};
 
 use super::Receiver;
 use history::State;

@@ -1,4 +1,5 @@
 // The texts of a section that was read.
+ghost use Rattle.section.specs.Origins.{bytes_of};
 ghost use Rattle.section.specs.Texts.{alert_text, nature_text, Says, Writes};
 
 use super::super::refusal::{QuestionRefusal, SectionRefusal};
@@ -8,26 +9,25 @@ use text::{Text, english};
 impl<'a> Section<'a> {
     // The alert's text.
     pub fn text(&self) -> Result<Text, SectionRefusal>
-        ensures { Says self.now.bytes.now (alert_text self.now.bytes.now) result }
+        ensures { Says (bytes_of self.now) (alert_text (bytes_of self.now)) result }
     {
         let part = self.alert_text()?;
-        let text = english(part.bytes)?;
-        Ok(text)
+        // A section that breaks no rule has no broken text, so this refusal is never given.
+        english(part.bytes).map_err(|_| SectionRefusal::Text)
     }
 
     // The nature of the event, in the same reading. Each names its own part, since that its field keeps the
     // structure is another fact for each.
     pub fn nature_text(&self) -> Result<Text, SectionRefusal>
-        ensures { Says self.now.bytes.now (nature_text self.now.bytes.now) result }
+        ensures { Says (bytes_of self.now) (nature_text (bytes_of self.now)) result }
     {
         let part = self.nature()?;
-        let text = english(part.bytes)?;
-        Ok(text)
+        english(part.bytes).map_err(|_| SectionRefusal::Text)
     }
 
     // Writes the alert's text to the front of `out`; a refusal leaves `out` as it was.
     pub fn write_text(&self, out: &mut [u8]) -> Result<usize, QuestionRefusal>
-        ensures { Writes self.now.bytes.now (alert_text self.now.bytes.now) out.old result out.new }
+        ensures { Writes (bytes_of self.now) (alert_text (bytes_of self.now)) out.old result out.new }
     {
         let text = self.text()?;
         text.write(out).map_err(|_| QuestionRefusal::Short)

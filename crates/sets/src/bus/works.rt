@@ -1,12 +1,13 @@
 // What the studio bus does.
 ghost use Rattle.std.specs.Prelude.{◌≡◌, ◌<◌};
-ghost use Rattle.sets.specs.Bus.{bus_meaning, new_bus, input};
+ghost use Rattle.sets.specs.Bus.{bus_meaning, input, inputs};
 ghost use Rattle.sets.specs.Laws.{bus_lawful};
+ghost use Rattle.sets.specs.Meaning.{plain};
 
 use crate::bus::StudioBus;
 use crate::caption::Caption;
 use crate::refusal::SetRefusal;
-use crate::set::{Set, Shows};
+use crate::set::Set;
 use crate::sound::Sound;
 use station::{ChannelPair, Service, SourceId};
 
@@ -27,12 +28,26 @@ fn input_of(number: usize) -> Service
 impl StudioBus {
     // A bus that shows its first input, with an empty caption.
     pub fn new() -> StudioBus
-        ensures value { bus_meaning result ≡ new_bus }
+        ensures value { bus_meaning result ≡ plain (inputs 0 16) 0 }
     {
         StudioBus {
             shown: 0,
             caption: Caption::empty(),
         }
+    }
+
+    // Whose sound is heard.
+    pub fn sound(&self) -> Sound
+        ensures value { result ≡ (bus_meaning self.now).sound }
+    {
+        Sound::Own
+    }
+
+    // The bytes of the caption.
+    pub fn caption_bytes(&self) -> &[u8]
+        ensures value { result.now ≡ (bus_meaning self.now).caption }
+    {
+        self.caption.as_bytes()
     }
 }
 
@@ -79,15 +94,5 @@ impl Set for StudioBus {
     fn caption(&mut self, bytes: &[u8]) -> Result<(), SetRefusal> {
         self.caption.replace(bytes)?;
         Ok(())
-    }
-}
-
-impl Shows for StudioBus {
-    fn sound(&self) -> Sound {
-        Sound::Own
-    }
-
-    fn caption_bytes(&self) -> &[u8] {
-        self.caption.as_bytes()
     }
 }

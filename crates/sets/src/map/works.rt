@@ -1,12 +1,13 @@
 // What the channel map does.
 ghost use Rattle.std.specs.Prelude.{◌≡◌, ◌<◌, ◌≤◌, length};
 ghost use Rattle.sets.specs.Laws.{map_lawful};
-ghost use Rattle.sets.specs.Maps.{map_meaning, freshly, new_map};
+ghost use Rattle.sets.specs.Maps.{map_meaning, new_map};
+ghost use Rattle.sets.specs.Meaning.{plain};
 
 use crate::caption::Caption;
 use crate::map::ChannelMap;
 use crate::refusal::SetRefusal;
-use crate::set::{Set, Shows};
+use crate::set::Set;
 use crate::sound::Sound;
 use station::{ChannelPair, Service, SourceId};
 
@@ -23,7 +24,7 @@ impl<'a> ChannelMap<'a> {
     // A map over a table that it fits, with its own sound and no caption.
     fn over(table: &'a [Service], start: usize) -> ChannelMap<'a>
         requires { (length table.now ≤ 256) × (start < length table.now) }
-        ensures value { map_meaning result ≡ freshly table.now start }
+        ensures value { map_meaning result ≡ plain table.now start }
     {
         ChannelMap {
             table,
@@ -41,6 +42,21 @@ impl<'a> ChannelMap<'a> {
             Ok(()) => ChannelMap::over(table, start),
             Err(_) => ChannelMap::over(&BARE, 0),
         }
+    }
+
+    // Whose sound is heard.
+    pub fn sound(&self) -> Sound
+        ensures value { result ≡ (map_meaning self.now).sound }
+    {
+        let ChannelMap { sound, .. } = self;
+        *sound
+    }
+
+    // The bytes of the caption.
+    pub fn caption_bytes(&self) -> &[u8]
+        ensures value { result.now ≡ (map_meaning self.now).caption }
+    {
+        self.caption.as_bytes()
     }
 }
 
@@ -86,15 +102,5 @@ impl<'a> Set for ChannelMap<'a> {
     fn caption(&mut self, bytes: &[u8]) -> Result<(), SetRefusal> {
         self.caption.replace(bytes)?;
         Ok(())
-    }
-}
-
-impl<'a> Shows for ChannelMap<'a> {
-    fn sound(&self) -> Sound {
-        self.sound
-    }
-
-    fn caption_bytes(&self) -> &[u8] {
-        self.caption.as_bytes()
     }
 }

@@ -1,7 +1,7 @@
 use Rattle.std.proofs.Common.{◌≡◌, true, false, refl, rules, tests}
 use Rattle.std.proofs.lemmas.Iterator.{first_from_Range}
-use Rattle.sets.specs.Meaning.{service_at}
-use Rattle.decision.specs.Lookups.{bears, holds}
+use Rattle.sets.specs.Meaning.{service_at, holds}
+use Rattle.decision.specs.Lookups.{bears}
 use Rattle.decision.proofs.Firsts.{first_is}
 use Rattle.decision.proofs.lookup.first_named.Goals as goal
 

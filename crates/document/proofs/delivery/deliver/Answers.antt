@@ -1,40 +1,29 @@
-use Rattle.std.proofs.Common.{◌≡◌, ℕ, List, length, Ok, Err, Result, sym, subst, rules}
-use Rattle.document.specs.Delivering.{Delivers, as_bytes}
-use Rattle.document.specs.Gathers.{section_document}
-use Rattle.document.specs.declared.undelivered.DeliveryRefusal.{DeliveryRefusal}
-use Rattle.document.specs.declared.undelivered.DeliveryRefusal.TheVariants.{Fill}
-use Rattle.document.proofs.Deliveries.{delivers_too}
-use Rattle.document.proofs.Holdings.{gathers_worked, handed}
+use Rattle.std.proofs.Common.{length, Ok, rules}
+use Rattle.section.specs.Origins.{bytes_of}
+use Rattle.document.specs.Delivering.{Delivers, delivery_answer}
+use Rattle.document.proofs.Deliveries.{answers_for_each_order}
+use Rattle.document.proofs.Holdings.{delivered, hands_out_of}
 use Rattle.document.proofs.delivery.deliver.Goals as goal
 
-pub returns-in_err-filled : goal.returns-in_err-filled
-returns-in_err-filled c =
-    let s = c.args.section.now.bytes.now in
-    let words = c.args.words.now in
-    let m = length c.args.work.now in
-    let n = length c.args.out.now in
-    let e : Result (List ℕ) DeliveryRefusal = Err (Fill c.in_err-filled.field-0.0.refusal) in
-    let h = c.in_err-filled.ensures.document_of_the_section s c.in_ok-gathered.ensures.document_of_the_section in
-    let d : Delivers s words m n e = subst (λ k. Delivers s words k n e) c.gather.auto.work h.1 in
-    let r : as_bytes c.from_residual-in_err-filled.result ≡ e = search rules in
-    record {
-      cases = subst (Delivers s words m n) (sym r) d;
-      after = gathers_worked (section_document s) c.args.work.now (Ok c.in_ok-gathered.gathered) c.gather.new.work c.in_ok-gathered.ensures.cases;
-      order_of_descriptors_does_not_matter = λ t a. subst (Delivers t words m n) (sym r) (delivers_too s words m n e d t a);
-    }
+pub returns-in_err-gathered-clause-order_of_descriptors_does_not_matter : goal.returns-in_err-gathered-clause-order_of_descriptors_does_not_matter
+returns-in_err-gathered-clause-order_of_descriptors_does_not_matter c =
+    let s = bytes_of c.args.section.now in
+    let answer = delivery_answer c.from_residual.result c.args.out.now in
+    let d : Delivers s c.args.words.now (length c.args.work.now) (length c.args.out.now) answer = search rules in
+    answers_for_each_order s c.args.words.now (length c.args.work.now) (length c.args.out.now) answer d
 
-pub returns : goal.returns
-returns c =
-    let s = c.args.section.now.bytes.now in
+pub returns-clause-order_of_descriptors_does_not_matter : goal.returns-clause-order_of_descriptors_does_not_matter
+returns-clause-order_of_descriptors_does_not_matter c =
+    let s = bytes_of c.args.section.now in
     let words = c.args.words.now in
-    let m = length c.args.work.now in
-    let n = length c.args.out.now in
-    let doc = c.in_ok-document.document.now in
+    let f = c.in_ok-filled.filled in
     let held = c.in_ok-gathered.ensures.document_of_the_section in
-    let filled = c.in_ok-document.ensures.document_of_the_section s words (c.in_ok-filled.ensures.document_of_the_section s held) in
-    let d = handed s words c.gather.new.work c.fill.new.out doc c.in_ok-gathered.gathered c.in_ok-filled.filled m n c.gather.auto.work c.fill.auto.out held c.in_ok-document.ensures.cases filled in
-    record {
-      cases = d;
-      after = gathers_worked (section_document s) c.args.work.now (Ok c.in_ok-gathered.gathered) c.gather.new.work c.in_ok-gathered.ensures.cases;
-      order_of_descriptors_does_not_matter = delivers_too s words m n (Ok doc) d;
-    }
+    let d = delivered s words c.gather.new.work c.fill.new.out c.in_ok-gathered.gathered f (length c.args.work.now) (length c.args.out.now) c.gather.auto.work c.fill.auto.out held (c.in_ok-filled.ensures.document_of_the_section s held) in
+    answers_for_each_order s words (length c.args.work.now) (length c.args.out.now) (delivery_answer (Ok f) c.fill.new.out) d
+
+pub returns-clause-handed_out : goal.returns-clause-handed_out
+returns-clause-handed_out c =
+    let s = bytes_of c.args.section.now in
+    let f = c.in_ok-filled.filled in
+    let held = c.in_ok-gathered.ensures.document_of_the_section in
+    hands_out_of s c.args.words.now c.fill.new.out f (c.in_ok-filled.ensures.document_of_the_section s held)

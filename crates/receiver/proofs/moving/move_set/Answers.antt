@@ -9,7 +9,7 @@ returns-then-not-looks_same g c =
     let P = c.decide_picture-old.ensures in
     let Q = c.decide_picture-new.ensures in
     record {
-      after = driven m c.args.from.now c.args.to.now _ _ P Q c.drive_set.result _ c.drive_set.ensures;
+      after = driven m c.args.from.now c.args.to.now _ _ P Q c.drive_set.result _ c.drive_set.ensures.cases;
       same = λ e. absurd (both_ways _ c.if-not-looks_same.true (c.looks_same.ensures.value.1 (look m c.args.from.now c.args.to.now _ _ P Q e)));
     }
 

@@ -10,10 +10,7 @@ returns g c =
       stands = on.stands _ _ begun;
       the_set_shows_what_the_calls_ask = on.the_set_shows_what_the_calls_ask _ _ begun;
       the_calls_before_determine_each_reply = on.the_calls_before_determine_each_reply _ _ begun;
-      the_watcher_sees_each_call_with_its_reply =
-          let w = on.the_watcher_sees_each_call_with_its_reply in
-          record { replies = w.replies; one_each = w.one_each; right = w.right _ _ begun; shown = w.shown };
-      the_calls_determine_the_set = determined;
+      the_calls_determine_the_set_and_the_replies = determined;
       the_order_of_descriptors_does_not_matter = descriptor_order_does_not_matter;
       rest = on.rest;
     }

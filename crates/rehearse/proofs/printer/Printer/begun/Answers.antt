@@ -1,6 +1,4 @@
 use Rattle.rehearse.proofs.printer.Printer.begun.Goals as goal
 
 pub returns : goal.returns
-returns g c =
-    let seen = c.shown_by.ensures in
-    (c.shown_by.result, record { screen = seen.screen; sound = seen.sound; caption = seen.caption }, c.begins.ensures)
+returns g c = λ s h x. (c.shown_by.result, c.shown_by.ensures s h x, c.begins.ensures)

@@ -1,12 +1,10 @@
-use Rattle.std.proofs.Common.{sym, ap, ◌∙◌}
-use Rattle.std.proofs.lemmas.Bool.{both_ways}
+use Rattle.std.proofs.Common.{◌≡◌, true, ap, ◌∙◌, rules}
 use Rattle.text.specs.Structure.{structured}
-use Rattle.section.specs.Places.{nature_of}
 use Rattle.section.proofs.Outcomes.{texts_of}
 use Rattle.section.proofs.section.Section.nature_text.Goals as goal
 
-pub returns-in_err-text : goal.returns-in_err-text
-returns-in_err-text c =
-    let s = c.args.self.now.bytes.now in
+pub returns : goal.returns
+returns c =
     let part = c.in_ok-part.ensures in
-    absurd (both_ways (structured (nature_of s)) (sym (ap structured part.2) ∙ c.in_err-text.ensures.cases.0) (texts_of s part.0).0)
+    let keeps : structured c.in_ok-part.part.bytes.now ≡ true = ap structured part.1.1 ∙ (texts_of c.args.self.now.bytes.now part.0).0 in
+    search rules
