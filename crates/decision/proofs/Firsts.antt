@@ -1,7 +1,7 @@
 -- The first service that a test holds of. Assumes nothing.
 use Rattle.std.proofs.Common.{◌≡◌, ℕ, zero, suc, ◌+◌, ◌<◌, ◌≤◌, Bool, true, false, List, [], ◌∷◌, length, position, Some, None, Option, sym, refl, ap, ◌∙◌, arith}
 use Rattle.std.specs.List.{position_from}
-use Rattle.std.specs.Option.{MatchOption}
+use Rattle.std.specs.Option.{MatchOption, IsSomeAnd}
 use Rattle.std.proofs.lemmas.Bool.{cond-true, cond-false}
 use Rattle.std.proofs.lemmas.Iterator.Adapters.{position_from-zero}
 use Rattle.station.specs.declared.service.Service.{Service}
@@ -30,3 +30,10 @@ first_is p ss a b None x y h = none_from p 0 ss (λ k lt. h k (omega arith) (ome
 first_is p ss a b (Some i) x y h =
     let e : i ≡ 0 + i = omega arith in
     ap Some e ∙ (some_from p 0 ss i (omega (arith, h.1)) h.2 (λ k lt. h.3 k (omega arith) lt) ∙ sym (position_from-zero p ss))
+
+-- what is found may be handed on as it is
+pub kept : {X : Type 0} (o r : Option X) → MatchOption o (r ≡ None) (λ x. IsSomeAnd r (λ y. y ≡ x)) → o ≡ r
+kept None None h = refl
+kept None (Some y) h = sym h
+kept (Some x) None h = absurd h
+kept (Some x) (Some y) h = sym (ap Some h)

@@ -55,5 +55,5 @@ pub fn borrowable_sound<S: Set>(
 ) -> Option<usize>
     ensures { Picks (IsSound path fields.now (S.meaning set.now).services details) result }
 {
-    audio_service(set, path, fields).or(if_apart(set, details))
+    audio_service(set, path, fields).or_else(|| if_apart(set, details))
 }

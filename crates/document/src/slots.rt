@@ -1,20 +1,28 @@
 // The table of a gathering: a slot for each fragment number.
-ghost use Rattle.std.specs.Prelude.{◌≡◌, ◌+◌, ◌<◌, ◌≤◌, [], ◌∷◌, ◌++◌, List, length};
+ghost use Rattle.std.specs.Prelude.{◌≡◌, ℕ, ◌+◌, ◌<◌, ◌≤◌, [], ◌∷◌, ◌++◌, List, length, take, drop};
 ghost use Rattle.document.specs.Descriptors.{Descriptor};
 ghost use Rattle.document.specs.Fragments.{breaks};
 ghost use Rattle.document.specs.Tables.{Tabled};
 
+// Where a fragment stands in the descriptor bytes. Numbers, since with slices the table would be four times as large,
+// and each call pays for its size.
+#[derive(Clone, Copy)]
+pub(crate) struct Place {
+    pub(crate) start: u16,
+    pub(crate) len: u8,
+}
+
 // Of one fragment number.
 #[derive(Clone, Copy)]
-pub(crate) struct Slot<'a> {
-    // the bytes of the first fragment of that number, where one was met
-    pub(crate) fragment: Option<&'a [u8]>,
+pub(crate) struct Slot {
+    // the first fragment of that number, where one was met
+    pub(crate) fragment: Option<Place>,
 }
 
 #[derive(Drop)]
-pub(crate) struct Gathering<'a> {
+pub(crate) struct Gathering {
     // one for each number; in place, since no heap is asked for
-    pub(crate) slots: [Slot<'a>; 256],
+    pub(crate) slots: [Slot; 256],
     // how many fragments were met
     pub(crate) count: u16,
     // Two flags, since either may stand alone: one field for the graver fault would have to say their order twice.
@@ -31,9 +39,9 @@ fn is_broken(body: &[u8]) -> bool
     body.len() < 3 || body[0] == 0 || usize::from(body[1]) != body.len() - 2
 }
 
-impl<'a> Gathering<'a> {
-    pub(crate) fn new() -> Gathering<'a>
-        ensures holds { Tabled [] result }
+impl Gathering {
+    pub(crate) fn new() -> Gathering
+        ensures holds { (area : List ℕ) → Tabled area [] result }
     {
         Gathering {
             slots: [Slot { fragment: None }; 256],
@@ -43,12 +51,13 @@ impl<'a> Gathering<'a> {
         }
     }
 
-    // Takes in the bytes of a metadata descriptor. Both `requires` stay: no type holds the length of a body that is
-    // given, nor how many were met.
-    pub(crate) fn meet(&mut self, body: &'a [u8])
+    // Takes in the bytes of a metadata descriptor, which stand at `at`. The `requires` stay: no type holds the length of
+    // a body that is given, nor where it stands, nor how many were met.
+    pub(crate) fn meet(&mut self, at: usize, body: &[u8])
+        requires near { at < 1024 }
         requires brief { length body.now < 256 }
         requires room { self.old.count < 1024 }
-        ensures holds { (ds : List Descriptor) → Tabled ds self.old → Tabled (ds ++ record { tag = 3; body = body.now } ∷ []) self.new }
+        ensures holds { (area : List ℕ) (ds : List Descriptor) → body.now ≡ take (length body.now) (drop at area) → Tabled area ds self.old → Tabled area (ds ++ record { tag = 3; body = body.now } ∷ []) self.new }
         ensures count { self.new.count ≤ self.old.count + 1 }
     {
         if is_broken(body) {
@@ -58,7 +67,9 @@ impl<'a> Gathering<'a> {
         self.count += 1;
         let slot = &mut self.slots[usize::from(body[0])];
         if slot.fragment.is_none() {
-            slot.fragment = Some(&body[2..]);
+            let start = (at + 2) as u16;
+            let len = (body.len() - 2) as u8;
+            slot.fragment = Some(Place { start, len });
         } else {
             self.twice = true;
         }

@@ -1,5 +1,5 @@
 -- The first of the whole chunks that passes a test. Assumes nothing.
-use Rattle.std.proofs.Common.{◌≡◌, ℕ, ◌+◌, ◌<◌, Bool, true, false, List, length, Bor, Some, None, Option, sym, ap, ◌∙◌, arith}
+use Rattle.std.proofs.Common.{◌≡◌, ℕ, ◌+◌, ◌<◌, Bool, true, false, List, length, Bor, Some, None, Option, refl, sym, ap, ◌∙◌, arith}
 use Rattle.std.proofs.Math.Nat.{le-div_iff_mul-le}
 use Rattle.std.proofs.lemmas.Option.{none-some}
 use Rattle.std.specs.Bool.{IsTrue}
@@ -30,3 +30,10 @@ module _ {A S F : Type 0} {steps : S → Option (Bor (List ℕ)) → S → Type 
       let within : k < p.len = omega (arith, chunks.1 h.0, (le-div_iff_mul-le {k = w} {x = k + 1} {y = length bytes} some).1 whole) in
       let x = there (p.at k) (λ y. y) (p.reads k (record { ref_ptr = (0, 0); now = bytes }) within) (h.1 keeps k) (chunks.2 k) in
       ap (λ e. named e thing) (sym x.2.2.0) ∙ sym (tells x.0 false x.1)
+
+-- what is found may be handed on as it is
+pub kept : {X : Type 0} (o r : Option X) → MatchOption o (r ≡ None) (λ x. IsSomeAnd r (λ y. y ≡ x)) → o ≡ r
+kept None None h = refl
+kept None (Some y) h = sym h
+kept (Some x) None h = absurd h
+kept (Some x) (Some y) h = sym (ap Some h)

@@ -3,6 +3,7 @@ use Rattle.std.proofs.Common.{◌≡◌, ℕ, suc, ◌+◌, ◌-◌, ◌^◌, �
 use mathlib.Core.Bool.{and_assoc}
 use Rattle.std.specs.Str.{bytes_eq}
 use Rattle.std.proofs.lemmas.List.{take-append-drop, take-append-le, drop-append-le, length-take-le}
+use Rattle.std.proofs.lemmas.Bool.{true≢false}
 use Rattle.std.proofs.lemmas.Bool.Decides.{nat_tests}
 use Rattle.lines.specs.Ends.{unreturned, is_comment}
 use Rattle.lines.specs.Held.{Holds}
@@ -57,7 +58,7 @@ TailSays Digits p = (all_digits (unreturned p) ≡ true) × (length (unreturned 
 TailSays Returned p = (all_digits (unreturned p) ≡ true) × (length (unreturned p) ≡ length p - 1)
 TailSays Other p = all_digits (unreturned p) ≡ false
 
-other_stays : (p : List ℕ) → fold tail_after Other p ≡ Other
+pub other_stays : (p : List ℕ) → fold tail_after Other p ≡ Other
 other_stays [] = refl
 other_stays (b ∷ p) = other_stays p
 
@@ -99,6 +100,32 @@ tail_says : (p : List ℕ) → TailSays (tail_of p) p
 tail_says [] = (refl, refl)
 tail_says (b ∷ []) = one_says (is_digit b) (eqb b 0x0D) b refl refl
 tail_says (b ∷ c ∷ p) = says_step (is_digit b) b c p refl (tail_says (c ∷ p))
+
+-- which tail it is, by one test of all the bytes
+of_other : (t : Tail) (p : List ℕ) → TailSays t p → all_digits (unreturned p) ≡ false → t ≡ Other
+of_other Digits p says h = absurd (true≢false (sym says.0 ∙ h))
+of_other Returned p says h = absurd (true≢false (sym says.0 ∙ h))
+of_other Other p says h = refl
+
+of_returned : (t : Tail) (p : List ℕ) → TailSays t p → all_digits (unreturned p) ≡ true → length (unreturned p) < length p → t ≡ Returned
+of_returned Digits p says h less = absurd (omega (arith, says.1, less))
+of_returned Returned p says h less = refl
+of_returned Other p says h less = absurd (true≢false (sym h ∙ says))
+
+of_digits : (t : Tail) (p : List ℕ) → TailSays t p → all_digits (unreturned p) ≡ true → length p ≤ length (unreturned p) → 0 < length p → t ≡ Digits
+of_digits Digits p says h all some = refl
+of_digits Returned p says h all some = absurd (omega (arith, says.1, all, some))
+of_digits Other p says h all some = absurd (true≢false (sym h ∙ says))
+
+pub turned_other : (p : List ℕ) → all_digits (unreturned p) ≡ false → fold tail_after Digits p ≡ Other
+turned_other p h = of_other (tail_of p) p (tail_says p) h
+
+pub turned_returned : (p : List ℕ) → all_digits (unreturned p) ≡ true → length (unreturned p) < length p → fold tail_after Digits p ≡ Returned
+turned_returned p h less = of_returned (tail_of p) p (tail_says p) h less
+
+pub digits_stay : (p : List ℕ) → all_digits (unreturned p) ≡ true → length p ≤ length (unreturned p) → fold tail_after Digits p ≡ Digits
+digits_stay [] h all = refl
+digits_stay (b ∷ p) h all = of_digits (tail_of (b ∷ p)) (b ∷ p) (tail_says (b ∷ p)) h all (omega arith)
 
 -- how many bytes the digits kept and those past them stand for
 abbrev pub size_by : Bool → Option ℕ → ℕ → Option ℕ

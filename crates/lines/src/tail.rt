@@ -2,6 +2,9 @@
 ghost use Rattle.std.specs.Prelude.{◌≡◌, fold};
 ghost use Rattle.lines.specs.Tails.{tail_after};
 
+use crate::ends::without_return;
+use crate::hex::all_digits;
+
 #[derive(Clone, Copy, PartialEq, Eq, Debug)]
 pub enum Tail {
     // hexadecimal digits only, or nothing
@@ -22,9 +25,19 @@ impl Tail {
         }
     }
 
+    // By one test of them all, not by a step for each: most of what is past the kept bytes is digits to its end, and nothing
+    // turns `Other` any more.
+    #[tactic(auto, using(crate::proofs::Tailing::other_stays, crate::proofs::Tailing::turned_other, crate::proofs::Tailing::turned_returned, crate::proofs::Tailing::digits_stay))]
     pub(crate) fn after_all(self, bytes: &[u8]) -> Tail
         ensures value { result ≡ fold tail_after self bytes.now }
     {
-        bytes.iter().fold(self, |tail, byte| tail.after(*byte))
+        let front = without_return(bytes);
+        match self {
+            Tail::Digits if !all_digits(front) => Tail::Other,
+            Tail::Digits if front.len() < bytes.len() => Tail::Returned,
+            Tail::Digits => Tail::Digits,
+            Tail::Returned => bytes.iter().fold(self, |tail, byte| tail.after(*byte)),
+            Tail::Other => Tail::Other,
+        }
     }
 }

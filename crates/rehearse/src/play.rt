@@ -74,7 +74,7 @@ fn take<S: Set>(exchange: &mut Exchange, receiver: &mut Receiver<S>, asked: Aske
     }
 }
 
-// Does what a line asks for, and writes what was printed of it, which may be nothing.
+// Does what a line asks for, and writes what was printed of it; of an empty line or a comment nothing was.
 fn answer<S: Set>(
     exchange: &mut Exchange,
     receiver: &mut Receiver<S>,
@@ -86,7 +86,10 @@ fn answer<S: Set>(
     ensures written { NothingWaits exchange.old → OnOk result (NothingWaits exchange.new) }
 {
     take(exchange, receiver, asked);
-    exchange.output.write()
+    match asked {
+        Asked::Nothing => Ok(()),
+        _ => exchange.output.write(),
+    }
 }
 
 // Goes on to the end of the script.

@@ -27,13 +27,13 @@ fn read_word<T: Copy + Drop>(text: &[u8], word: &[u8], meaning: T) -> Option<T>
 fn read_set(text: &[u8]) -> Option<SetKind>
     ensures value { result ≡ set_of text.now }
 {
-    read_word(text, b"set=bus", SetKind::Bus).or(read_word(text, b"set=map", SetKind::Map))
+    read_word(text, b"set=bus", SetKind::Bus).or_else(|| read_word(text, b"set=map", SetKind::Map))
 }
 
 fn read_path(text: &[u8]) -> Option<Path>
     ensures value { result ≡ path_of text.now }
 {
-    read_word(text, b"path=in-band", Path::InBand).or(read_word(
+    read_word(text, b"path=in-band", Path::InBand).or_else(|| read_word(
         text,
         b"path=out-of-band",
         Path::OutOfBand,
@@ -59,28 +59,27 @@ fn read_map_service(text: &[u8]) -> Option<Service>
     read_service(value_after(text, b"service=")?)
 }
 
+// What the text settles. Each kind is read only where those before it are not there.
 fn read_setting(text: &[u8]) -> Option<Setting>
     ensures value { result ≡ setting_of text.now }
 {
-    let service = read_map_service(text).map(Setting::Service);
-    let set = read_set(text).map(Setting::Set);
-    let start = read_number(text, b"start=").map(Setting::Start);
-    let place = read_place(text).map(Setting::Place);
-    let path = read_path(text).map(Setting::Path);
-    let clock = read_number(text, b"clock=").map(Setting::Clock);
-    service.or(set).or(start).or(place).or(path).or(clock)
+    read_map_service(text)
+        .map(Setting::Service)
+        .or_else(|| read_set(text).map(Setting::Set))
+        .or_else(|| read_number(text, b"start=").map(Setting::Start))
+        .or_else(|| read_place(text).map(Setting::Place))
+        .or_else(|| read_path(text).map(Setting::Path))
+        .or_else(|| read_number(text, b"clock=").map(Setting::Clock))
 }
 
-// What the words of a line ask for.
+// What the words of a line ask for. Each kind is read only where those before it are not there.
 pub(crate) fn read_words(text: &[u8]) -> Asked
     ensures value { result ≡ words_ask text.now }
 {
-    let tick = read_number(text, b"tick=").map(Asked::Tick);
-    let choose = read_number(text, b"choose=").map(Asked::Choose);
-    let setting = read_setting(text).map(Asked::Setting);
-    let begin = read_word(text, b"begin", Asked::Begin);
-    tick.or(choose)
-        .or(setting)
-        .or(begin)
+    read_number(text, b"tick=")
+        .map(Asked::Tick)
+        .or_else(|| read_number(text, b"choose=").map(Asked::Choose))
+        .or_else(|| read_setting(text).map(Asked::Setting))
+        .or_else(|| read_word(text, b"begin", Asked::Begin))
         .unwrap_or(Asked::Unknown)
 }

@@ -39,6 +39,11 @@ abbrev pub lists_sound : List Service → Sound → Bool
 lists_sound ss (Borrowed k) = nat_lt k (length ss)
 lists_sound ss sound = true
 
+-- where the sound of a service is borrowed, that service is apart: kept by a set that only its own calls change, as the channel map, and asked of no other
+abbrev pub hearable : List Service → Sound → Bool
+hearable ss (Borrowed k) = apart_at ss k
+hearable ss sound = true
+
 -- what holds of every set at all times
 pub record Lawful (m : Meaning) : Type 0 where
   pub some : 1 ≤ count_of m

@@ -1,6 +1,6 @@
 // The channel map: a set over a table of services that is lent to it.
 ghost use Rattle.std.specs.Prelude.{◌≡◌, ℕ, ◌<◌, ◌≤◌, true, length};
-ghost use Rattle.sets.specs.Meaning.{lists_sound};
+ghost use Rattle.sets.specs.Meaning.{lists_sound, hearable};
 
 use super::caption::Caption;
 use super::sound::Sound;
@@ -15,6 +15,7 @@ pub struct ChannelMap<'a> {
     ghost few: { length table.now ≤ 256 },
     ghost inside: { shown < length table.now },
     ghost listed: { lists_sound table.now sound ≡ true },
+    ghost heard: { hearable table.now sound ≡ true },
 }
 
 pub mod works;

@@ -11,10 +11,11 @@ ghost use Rattle.text.specs.Writing.{WrittenEnglish};
 use crate::characters::put_segments;
 use crate::line::Text;
 use crate::refusal::TextRefusal;
-use crate::run::Run;
+use crate::run::{Parts, Run};
 use crate::segment::Segments;
 use crate::spoken::{Spoken, Strings};
 use crate::structure::{is_structured, strings_of};
+use octets::after;
 
 // Whether each segment can be read.
 fn all_readable(mut segments: Run<'_, Segments>) -> bool
@@ -44,18 +45,29 @@ fn text_of_string(string: Spoken<'_>) -> Text
     }
 }
 
-// The first English one of them.
-fn first_english(mut strings: Run<'_, Strings>) -> Option<Spoken<'_>>
+// The first English one of them. Not by `find`: `next` comes to the end of each before it is tested, also of the one found.
+fn first_english(strings: Run<'_, Strings>) -> Option<Spoken<'_>>
     ensures value { option_map seen_string result ≡ find (λ t. english t.language) (the_strings strings.entry.left strings.entry.rest.now) }
 {
-    strings.find(|string| string.is_english())
+    let mut rest = strings.rest;
+    for _ in 0..strings.left {
+        let string = Strings::read(rest);
+        if string.is_english() {
+            return Some(string);
+        }
+        rest = after(rest, Strings::size_of(rest));
+    }
+    None
 }
 
 // The text of a field, as far as its bytes go.
 fn text_of(field: &[u8]) -> Text
     ensures value { said result ≡ text_of field.now }
 {
-    first_english(strings_of(field)).map_or_else(Text::empty, text_of_string)
+    match first_english(strings_of(field)) {
+        Some(string) => text_of_string(string),
+        None => Text::empty(),
+    }
 }
 
 // The English text of a field that keeps the structure.

@@ -38,8 +38,8 @@ pub(crate) trait Parts<'a> {
 // So many parts that are still to come.
 #[derive(Clone, Copy)]
 pub(crate) struct Run<'a, P> {
-    left: u8,
-    rest: &'a [u8],
+    pub(crate) left: u8,
+    pub(crate) rest: &'a [u8],
     of: PhantomData<P>,
 }
 
@@ -63,10 +63,14 @@ impl<'a, P: Parts<'a>> Run<'a, P> {
         let mut rest = self.rest;
         let mut size = 0;
         // Only the sizes are asked for: no part is read.
-        for _ in 0..self.left {
+        for done in 0..self.left {
             let part = P::size_of(rest);
             size += part;
-            rest = after(rest, part);
+            let Some(next) = rest.get(part..) else {
+                // past the end each that is left states what one of no bytes does
+                return size + usize::from(self.left - done - 1) * P::size_of(&[]);
+            };
+            rest = next;
         }
         size
     }

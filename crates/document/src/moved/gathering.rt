@@ -11,6 +11,7 @@ ghost use Rattle.section.specs.Origins.{bytes_of};
 use super::Gathered;
 use crate::binding::{total, write};
 use crate::refusal::DocumentRefusal;
+use crate::slots::Gathering;
 use crate::walk::walk;
 use section::Section;
 
@@ -28,13 +29,14 @@ fn gather_part(area: &[u8], work: &mut [u8]) -> Result<Gathered, DocumentRefusal
     requires { length area.now ≤ 1023 }
     ensures cases { Gathers (document_of area.now) work.old result work.new }
 {
-    let gathering = walk(area).ok_or(DocumentRefusal::Unended)?;
+    let mut gathering = Gathering::new();
+    walk(area, &mut gathering).ok_or(DocumentRefusal::Unended)?;
     let slots = gathering.bound()?;
     let size = total(slots);
     if work.len() < size {
         return Err(DocumentRefusal::Short);
     }
-    write(slots, work);
+    write(area, slots, work);
     Ok(Gathered { size })
 }
 

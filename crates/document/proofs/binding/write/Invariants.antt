@@ -4,5 +4,5 @@ use Rattle.document.proofs.binding.write.Given as goal
 
 abbrev pub invariant-loop-slot : goal.invariant-loop-slot
 invariant-loop-slot l =
-    (l.done ≡ length (pieces (take l.slot-index l.slots)))
-    × (l.work ≡ pieces (take l.slot-index l.slots) ++ drop l.done l.initial.work)
+    (l.done ≡ length (pieces l.area (take l.slot-index l.slots)))
+    × (l.work ≡ pieces l.area (take l.slot-index l.slots) ++ drop l.done l.initial.work)

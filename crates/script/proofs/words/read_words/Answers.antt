@@ -1,11 +1,15 @@
-use Rattle.std.proofs.Common.{◌∙◌}
+use Rattle.std.proofs.Common.{ap, rules, ◌∙◌}
+use Rattle.std.specs.Option.{unwrap_or}
 use Rattle.script.specs.declared.asked.Asked.TheVariants as asked
-use Rattle.script.proofs.Made.{made}
+use Rattle.script.proofs.Made.{made, answer_made, else_made}
 use Rattle.script.proofs.words.read_words.Goals as goal
 
 pub returns : goal.returns
 returns c =
-    let tick = made asked.Tick _ _ _ c.map-tick.ensures.cases c.read_number.ensures.value in
-    let choose = made asked.Choose _ _ _ c.map-choose.ensures.cases c.read_number-2.ensures.value in
-    let setting = made asked.Setting _ _ _ c.map-setting.ensures.cases c.read_setting.ensures.value in
-    record { value = c.unwrap_or.ensures ∙ rw (c.or-3.ensures, c.or-2.ensures, c.or.ensures, tick, choose, setting, c.read_word-begin.ensures.value) }
+    let tick = made asked.Tick _ _ _ c.map.ensures.cases c.read_number.ensures.value in
+    record {
+      value = c.unwrap_or.ensures ∙ ap (λ o. unwrap_or o asked.Unknown)
+          (else_made _ _ _ _ c.or_else-3.ensures (λ p. search rules)
+          (else_made _ _ _ _ c.or_else-2.ensures (λ p. search answer_made)
+          (else_made _ _ _ _ c.or_else.ensures (λ p. search answer_made) tick)));
+    }

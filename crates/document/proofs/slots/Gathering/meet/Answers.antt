@@ -1,5 +1,4 @@
 use Rattle.std.proofs.Common.{◌≡◌, true, false, get_or, rules, arith}
-use Rattle.std.proofs.lemmas.List.{take_rest}
 use Rattle.std.specs.Option.{is_some}
 use Rattle.document.specs.Fragments.{breaks}
 use Rattle.document.specs.Tables.{empty}
@@ -7,18 +6,18 @@ use Rattle.document.proofs.Tables.{met_broken, met_again, met_new}
 use Rattle.document.proofs.slots.Gathering.meet.Goals as goal
 
 pub returns-then-is_broken-clause-holds : goal.returns-then-is_broken-clause-holds
-returns-then-is_broken-clause-holds c = λ ds h. let b : breaks c.args.body.now ≡ true = search rules in met_broken ds c.args.body.now c.args.self.now h b
+returns-then-is_broken-clause-holds c = λ area ds part h. let b : breaks c.args.body.now ≡ true = search rules in met_broken area ds c.args.body.now c.args.self.now h b
 
 pub returns-then-is_none-clause-holds : goal.returns-then-is_none-clause-holds
-returns-then-is_none-clause-holds c = λ ds h.
+returns-then-is_none-clause-holds c = λ area ds part h.
     let body = c.args.body.now in
     let b : breaks body ≡ false = search rules in
     let free : is_some (get_or c.args.self.now.slots (get_or body 0 0) empty).fragment ≡ false = search rules in
-    met_new ds body c.args.self.now h b _ c.from.ensures (take_rest body 2) c.requires.brief (omega (arith, c.type_inv.body 0)) free
+    met_new area ds body c.args.self.now h b c.args.at c.from.ensures part c.requires.brief (omega (arith, c.type_inv.body 0)) free
 
 pub returns-else-is_none-clause-holds : goal.returns-else-is_none-clause-holds
-returns-else-is_none-clause-holds c = λ ds h.
+returns-else-is_none-clause-holds c = λ area ds part h.
     let body = c.args.body.now in
     let b : breaks body ≡ false = search rules in
     let full : is_some (get_or c.args.self.now.slots (get_or body 0 0) empty).fragment ≡ true = search rules in
-    met_again ds body c.args.self.now h b _ full
+    met_again area ds body c.args.self.now h b _ full
